@@ -1,0 +1,9 @@
+-- A count that rose in one part of a run rose in the whole of it.
+use Rattle.std.proofs.Common.{◌≡◌, ℕ, ◌≤◌, arith}
+use Rattle.sc_outside.specs.Faults.{Rose}
+
+pub Rose-earlier : (a b c : ℕ) → a ≤ b → Rose b c → Rose a c
+Rose-earlier a b c h r = record { later = omega arith; more = omega arith }
+
+pub Rose-later : (a b c : ℕ) → Rose a b → b ≤ c → Rose a c
+Rose-later a b c r h = record { later = omega arith; more = omega arith }

@@ -1,0 +1,4 @@
+pub mod JournalLaws
+pub mod MovesLaws
+pub mod Parts
+pub mod FaultsLaws

@@ -1,0 +1,95 @@
+-- What a port's moments have to do with each other: nothing moved, one call, and one stretch after another.
+use Rattle.std.proofs.Common.{◌≡◌, ℕ, ◌+◌, ◌<◌, ◌≤◌, List, [], ◌++◌, length, take, Option, None, Some, refl, sym, ap, ◌∙◌, subst, arith, length-append, length-take, append-nil, min}
+use Rattle.std.specs.Io.KnownBytes.{Consumes, Appends}
+use Rattle.std.proofs.KnownBytes.{Consumes-nil, Appends-nil, Appends-trans, Consumes-trans}
+use Rattle.sc_outside.specs.declared.journal.Move.{Move}
+use Rattle.sc_outside.specs.Journal.{Logs}
+use Rattle.sc_outside.specs.Port.{Told, MovesIn, MovesOut, IsUntouched, ReadFails, WriteFails, Moves, Takes, Puts}
+use Rattle.sc_outside.proofs.JournalLaws.{Logs-none, Logs-read, Logs-written, Logs-trans}
+
+same_left : (a b : Option (List ℕ)) → b ≡ a → Consumes a b []
+same_left a b e = subst (λ x. Consumes a x []) (sym e) (Consumes-nil a)
+
+same_given : (a b : Option (List ℕ)) → b ≡ a → Appends a b []
+same_given a b e = subst (λ x. Appends a x []) (sym e) (Appends-nil a)
+
+-- nothing told changed, and no count fell
+pub Moves-untouched : (a b : Told) → IsUntouched a b → a.read_faults ≤ b.read_faults → a.write_faults ≤ b.write_faults → Moves a b [] []
+Moves-untouched a b h r w = record {
+  left = same_left _ _ h.left;
+  given = same_given _ _ h.given;
+  journal = Logs-none _ _ h.journal;
+  read_faults = r;
+  write_faults = w
+}
+
+pub IsUntouched-refl : (a : Told) → IsUntouched a a
+IsUntouched-refl a = record { left = refl; given = refl; journal = refl }
+
+pub Moves-none : (a : Told) → Moves a a [] []
+Moves-none a = Moves-untouched a a (IsUntouched-refl a) (omega arith) (omega arith)
+
+pub Moves-trans : (a b c : Told) (t u p q : List ℕ) → Moves a b t p → Moves b c u q → Moves a c (t ++ u) (p ++ q)
+Moves-trans a b c t u p q x y = record {
+  left = Consumes-trans _ _ _ t u x.left y.left;
+  given = Appends-trans _ _ _ p q x.given y.given;
+  journal = rw (length-append t u, length-append p q) (Logs-trans _ _ _ (length t) (length p) (length u) (length q) x.journal y.journal);
+  read_faults = omega arith;
+  write_faults = omega arith
+}
+
+pub Takes-none : (a : Told) → Takes a a []
+Takes-none a = record { moves = Moves-none a; write_faults = refl }
+
+pub Takes-trans : (a b c : Told) (t u : List ℕ) → Takes a b t → Takes b c u → Takes a c (t ++ u)
+Takes-trans a b c t u x y = record { moves = Moves-trans a b c t u [] [] x.moves y.moves; write_faults = y.write_faults ∙ x.write_faults }
+
+pub Puts-none : (a : Told) → Puts a a []
+Puts-none a = record { moves = Moves-none a; read_faults = refl }
+
+pub Puts-trans : (a b c : Told) (p q : List ℕ) → Puts a b p → Puts b c q → Puts a c (p ++ q)
+Puts-trans a b c p q x y = record { moves = Moves-trans a b c [] [] p q x.moves y.moves; read_faults = y.read_faults ∙ x.read_faults }
+
+-- one read
+pub Takes-one : (a b : Told) (n : ℕ) (buf : List ℕ) → MovesIn a b n buf → Takes a b (take n buf)
+Takes-one a b n buf h =
+    let size : length (take n buf) ≡ n = omega (arith, length-take n buf, h.bound) in
+    record {
+      moves = record {
+        left = h.left;
+        given = same_given _ _ h.given;
+        journal = rw size (Logs-read _ _ n h.journal);
+        read_faults = h.read_faults;
+        write_faults = omega (arith, h.write_faults)
+      };
+      write_faults = h.write_faults
+    }
+
+-- one write
+pub Puts-one : (a b : Told) (n : ℕ) (piece : List ℕ) → MovesOut a b n piece → Puts a b (take n piece)
+Puts-one a b n piece h =
+    let size : length (take n piece) ≡ n = omega (arith, length-take n piece, h.bound) in
+    record {
+      moves = record {
+        left = same_left _ _ h.left;
+        given = h.given;
+        journal = rw size (Logs-written _ _ n h.journal);
+        read_faults = omega (arith, h.read_faults);
+        write_faults = h.write_faults
+      };
+      read_faults = h.read_faults
+    }
+
+-- a read that failed
+pub Takes-failed : (a b : Told) → ReadFails a b → Takes a b []
+Takes-failed a b h = record {
+  moves = Moves-untouched a b h.untouched (omega (arith, h.rose)) (omega (arith, h.write_faults));
+  write_faults = h.write_faults
+}
+
+-- a write that failed
+pub Puts-failed : (a b : Told) → WriteFails a b → Puts a b []
+Puts-failed a b h = record {
+  moves = Moves-untouched a b h.untouched (omega (arith, h.read_faults)) (omega (arith, h.rose));
+  read_faults = h.read_faults
+}

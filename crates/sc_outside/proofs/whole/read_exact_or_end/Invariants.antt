@@ -1,0 +1,12 @@
+use Rattle.std.proofs.Common.{length, take, ◌-◌, ◌≤◌}
+use Rattle.sc_outside.specs.Port.{Takes}
+use Rattle.sc_outside.proofs.whole.read_exact_or_end.Given as goal
+
+-- the front of the buffer is what was taken so far
+abbrev pub invariant-loop-filled : goal.invariant-loop-filled
+invariant-loop-filled g l =
+    let told = g.P.Port.told in
+    record { bound : l.filled ≤ length l.buf; takes : Takes (told l.fn.port) (told l.port) (take l.filled l.buf) }
+
+abbrev pub decreases-loop-filled : goal.decreases-loop-filled
+decreases-loop-filled g l = length l.initial.buf - l.filled

@@ -1,0 +1,7 @@
+-- Counts of faults. A count never falls. It is kept in 64 bits, and stands still at its last value.
+use Rattle.std.specs.Prelude.{ℕ, ◌+◌, ◌-◌, ◌^◌, ◌≤◌, min}
+
+-- a count rose, or stands at its last value
+pub record Rose (before now : ℕ) : Type 0 where
+  pub later : before ≤ now
+  pub more : min (before + 1) (2 ^ 64 - 1) ≤ now
