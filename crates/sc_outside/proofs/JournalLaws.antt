@@ -33,8 +33,9 @@ pub Logs-trans : (a b c : Option (List Move)) (r w s v : ℕ) → Logs a b r w �
 Logs-trans None b c r w s v p q = tt
 Logs-trans (Some a) None c r w s v p q = absurd p
 Logs-trans (Some a) (Some b) None r w s v p q = absurd q
-Logs-trans (Some a) (Some b) (Some c) r w s v p q =
-    (p.0 ++ q.0,
-     q.1 ∙ ap (λ l. l ++ q.0) p.1 ∙ append_assoc a p.0 q.0,
-     bytes_read-append p.0 q.0 ∙ ap (λ n. n + bytes_read q.0) p.2 ∙ ap (λ n. r + n) q.2,
-     bytes_written-append p.0 q.0 ∙ ap (λ n. n + bytes_written q.0) p.3 ∙ ap (λ n. w + n) q.3)
+Logs-trans (Some a) (Some b) (Some c) r w s v p q = (
+  p.0 ++ q.0,
+  q.1 ∙ ap (λ l. l ++ q.0) p.1 ∙ append_assoc a p.0 q.0,
+  bytes_read-append p.0 q.0 ∙ ap (λ n. n + bytes_read q.0) p.2 ∙ ap (λ n. r + n) q.2,
+  bytes_written-append p.0 q.0 ∙ ap (λ n. n + bytes_written q.0) p.3 ∙ ap (λ n. w + n) q.3,
+)

@@ -2,3 +2,4 @@ pub mod JournalLaws
 pub mod MovesLaws
 pub mod Parts
 pub mod FaultsLaws
+pub mod MemoryLaws

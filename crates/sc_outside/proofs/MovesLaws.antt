@@ -20,7 +20,7 @@ Moves-untouched a b h r w = record {
   given = same_given _ _ h.given;
   journal = Logs-none _ _ h.journal;
   read_faults = r;
-  write_faults = w
+  write_faults = w;
 }
 
 pub IsUntouched-refl : (a : Told) → IsUntouched a a
@@ -35,7 +35,7 @@ Moves-trans a b c t u p q x y = record {
   given = Appends-trans _ _ _ p q x.given y.given;
   journal = rw (length-append t u, length-append p q) (Logs-trans _ _ _ (length t) (length p) (length u) (length q) x.journal y.journal);
   read_faults = omega arith;
-  write_faults = omega arith
+  write_faults = omega arith;
 }
 
 pub Takes-none : (a : Told) → Takes a a []
@@ -60,9 +60,9 @@ Takes-one a b n buf h =
         given = same_given _ _ h.given;
         journal = rw size (Logs-read _ _ n h.journal);
         read_faults = h.read_faults;
-        write_faults = omega (arith, h.write_faults)
+        write_faults = omega (arith, h.write_faults);
       };
-      write_faults = h.write_faults
+      write_faults = h.write_faults;
     }
 
 -- one write
@@ -75,21 +75,21 @@ Puts-one a b n piece h =
         given = h.given;
         journal = rw size (Logs-written _ _ n h.journal);
         read_faults = omega (arith, h.read_faults);
-        write_faults = h.write_faults
+        write_faults = h.write_faults;
       };
-      read_faults = h.read_faults
+      read_faults = h.read_faults;
     }
 
 -- a read that failed
 pub Takes-failed : (a b : Told) → ReadFails a b → Takes a b []
 Takes-failed a b h = record {
   moves = Moves-untouched a b h.untouched (omega (arith, h.rose)) (omega (arith, h.write_faults));
-  write_faults = h.write_faults
+  write_faults = h.write_faults;
 }
 
 -- a write that failed
 pub Puts-failed : (a b : Told) → WriteFails a b → Puts a b []
 Puts-failed a b h = record {
   moves = Moves-untouched a b h.untouched (omega (arith, h.read_faults)) (omega (arith, h.rose));
-  read_faults = h.read_faults
+  read_faults = h.read_faults;
 }

@@ -1,5 +1,6 @@
 pub mod Faults
 pub mod Journal
+pub mod Memory
 pub mod Port
 pub mod Sink
 pub mod Whole

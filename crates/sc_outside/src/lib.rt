@@ -3,12 +3,19 @@
 
 mod error;
 mod journal;
+mod memory_port;
+mod memory_sink;
+mod plan;
 mod port;
 mod sink;
+mod standard;
 mod whole;
 
 pub use error::{Failed, NoMemory};
 pub use journal::Move;
+pub use memory_port::MemoryPort;
+pub use memory_sink::MemorySink;
 pub use port::Port;
 pub use sink::Sink;
+pub use standard::{StdPort, StdSink};
 pub use whole::{read_exact_or_end, write_whole};

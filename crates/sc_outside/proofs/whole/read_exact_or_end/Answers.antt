@@ -14,10 +14,10 @@ loop-filled-preserved g c =
     let within = c.loop-filled.invariant.bound in
     let whole = put_mid filled (length c.loop-filled.buf - filled) c.loop-filled.buf c.read.new.buf in
     let joined : take (filled + c.in_ok-taken.taken) whole ≡ take filled c.loop-filled.buf ++ take c.in_ok-taken.taken c.read.new.buf =
-      take-put_part filled c.in_ok-taken.taken _ c.loop-filled.buf c.read.new.buf within step.bound in
+    take-put_part filled c.in_ok-taken.taken _ c.loop-filled.buf c.read.new.buf within step.bound in
     record {
       bound = omega (arith, length-put_part filled _ c.loop-filled.buf c.read.new.buf c.read.auto.buf, step.bound);
-      takes = subst (Takes _ _) (sym joined) (Takes-trans _ _ _ _ _ c.loop-filled.invariant.takes (Takes-one _ _ _ _ step))
+      takes = subst (Takes _ _) (sym joined) (Takes-trans _ _ _ _ _ c.loop-filled.invariant.takes (Takes-one _ _ _ _ step));
     }
 
 pub returns-in_err-taken-clause-err : goal.returns-in_err-taken-clause-err
@@ -32,7 +32,7 @@ returns-in_err-taken-clause-err g c =
       taken = taken;
       short = omega (arith, count, length-put_part c.loop-filled.filled _ c.loop-filled.buf c.read.new.buf c.read.auto.buf);
       takes = subst (Takes _ _) (append-nil taken) (Takes-trans _ _ _ _ _ so_far (Takes-failed _ _ last));
-      rose = Rose-earlier _ _ _ so_far.moves.read_faults last.rose
+      rose = Rose-earlier _ _ _ so_far.moves.read_faults last.rose;
     })
 
 pub returns-then-taken-eq0-clause-ok : goal.returns-then-taken-eq0-clause-ok
@@ -42,10 +42,10 @@ returns-then-taken-eq0-clause-ok g c =
     let within = c.loop-filled.invariant.bound in
     let whole = put_mid filled (length c.loop-filled.buf - filled) c.loop-filled.buf c.read.new.buf in
     let joined : take (filled + c.in_ok-taken.taken) whole ≡ take filled c.loop-filled.buf ++ take c.in_ok-taken.taken c.read.new.buf =
-      take-put_part filled c.in_ok-taken.taken _ c.loop-filled.buf c.read.new.buf within step.bound in
+    take-put_part filled c.in_ok-taken.taken _ c.loop-filled.buf c.read.new.buf within step.bound in
     let same : filled + c.in_ok-taken.taken ≡ filled = omega (arith, c.if-taken-eq0.true) in
     record {
       bound = omega (arith, length-put_part filled _ c.loop-filled.buf c.read.new.buf c.read.auto.buf);
       takes = subst (Takes _ _) (sym joined ∙ ap (λ n. take n whole) same) (Takes-trans _ _ _ _ _ c.loop-filled.invariant.takes (Takes-one _ _ _ _ step));
-      end = λ _. step.end c.if-taken-eq0.true
+      end = λ _. step.end c.if-taken-eq0.true;
     }

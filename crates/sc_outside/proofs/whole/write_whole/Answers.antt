@@ -14,7 +14,7 @@ loop-rest-preserved g c =
     record {
       put = so_far.put ++ take n rest;
       parts = so_far.parts
-        ∙ ap (λ l. so_far.put ++ l) (sym (take-append-drop n rest) ∙ ap (λ l. take n rest ++ l) (sym (take-rest n rest)))
-        ∙ sym (append_assoc so_far.put (take n rest) (take (length rest - n) (drop n rest)));
-      puts = Puts-trans _ _ _ _ _ so_far.puts (Puts-one _ _ _ _ step)
+          ∙ ap (λ l. so_far.put ++ l) (sym (take-append-drop n rest) ∙ ap (λ l. take n rest ++ l) (sym (take-rest n rest)))
+          ∙ sym (append_assoc so_far.put (take n rest) (take (length rest - n) (drop n rest)));
+      puts = Puts-trans _ _ _ _ _ so_far.puts (Puts-one _ _ _ _ step);
     }
