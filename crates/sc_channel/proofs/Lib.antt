@@ -1,0 +1,4 @@
+pub mod SetCount
+pub mod Span
+pub mod FineParts
+pub mod Sweeping

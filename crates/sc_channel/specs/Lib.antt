@@ -1,0 +1,4 @@
+pub mod Channel
+pub mod Flags
+pub mod Loss
+pub mod Sweep

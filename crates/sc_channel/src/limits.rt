@@ -1,0 +1,109 @@
+//! A channel: the four numbers of the sliding-window erasure channel, within this project's limits.
+
+ghost use Rattle.std.specs.Prelude.{◌≡◌, ◌<◌, ◌⊎◌, ◌↔◌, IsOk, IfOk};
+ghost use Rattle.sc_channel.specs.Channel.{IsOrdered, IsChannel};
+
+use std::error::Error;
+use std::fmt;
+use std::marker::Model;
+
+/// The sliding-window erasure channel after Badr and others, with a deadline.
+///
+/// In each window of `w` slots at most `n` slots are erased, or all erasures lie within a span of
+/// at most `b` slots. A source block is due `t` slots after its own. Always
+/// `1 <= n <= b <= t < w <= 255` and `t <= 40`; the limits 255 and 40 are this project's own.
+#[derive(Copy, Clone, Debug, PartialEq, Eq)]
+pub struct Channel {
+    w: u32,
+    b: u32,
+    n: u32,
+    t: u32,
+}
+
+impl Model for Channel {
+    ghost use Rattle.sc_channel.specs.Channel.{ChannelNumbers, IsChannel};
+
+    ghost Value = { ChannelNumbers };
+
+    ghost view = { λ c. record { w = c.w; b = c.b; n = c.n; t = c.t } };
+
+    ghost invariant = { λ c. IsChannel (record { w = c.w; b = c.b; n = c.n; t = c.t }) };
+
+    ghost inverse = { λ c. record { w = c.w; b = c.b; n = c.n; t = c.t } };
+}
+
+/// Why four numbers are no channel.
+#[derive(Copy, Clone, Debug, PartialEq, Eq)]
+pub enum BadChannel {
+    /// Not `1 <= n <= b <= t < w`.
+    Order,
+    /// In that order, but `w` is above 255 or `t` above 40.
+    Range,
+}
+
+impl fmt::Display for BadChannel {
+    fn fmt<W: fmt::Write>(&self, f: &mut fmt::Formatter<W>) -> fmt::Result {
+        match self {
+            BadChannel::Order => write!(f, "not 1 <= N <= B <= T < W"),
+            BadChannel::Range => write!(f, "W above 255 or T above 40"),
+        }
+    }
+}
+
+impl Error for BadChannel {}
+
+impl Channel {
+    /// The greatest window, in slots.
+    const MAX_WINDOW: u32 = 255;
+    /// The greatest deadline, in slots.
+    const MAX_DEADLINE: u32 = 40;
+
+    /// The channel with windows of `w` slots, spans of at most `b` slots, at most `n` erasures
+    /// anywhere in a window, and the deadline `t` in slots.
+    pub fn new(w: u32, b: u32, n: u32, t: u32) -> Result<Channel, BadChannel>
+        ensures accepted { IsOk result ↔ IsChannel (record { w = w; b = b; n = n; t = t }) }
+        ensures numbers { IfOk result (λ channel. channel ≡ record { w = w; b = b; n = n; t = t }) }
+        ensures order { (result ≡ Err BadChannel.Order) ↔ ¬ IsOrdered w b n t }
+        ensures range { (result ≡ Err BadChannel.Range) ↔ (IsOrdered w b n t × ((255 < w) ⊎ (40 < t))) }
+    {
+        if !(1 <= n && n <= b && b <= t && t < w) {
+            return Err(BadChannel::Order);
+        }
+        if w > Channel::MAX_WINDOW || t > Channel::MAX_DEADLINE {
+            return Err(BadChannel::Range);
+        }
+        Ok(Channel { w, b, n, t })
+    }
+
+    /// The length of a window, in slots.
+    pub fn w(&self) -> u32
+        ensures number { result ≡ self.now.w }
+        ensures limits { IsChannel self.now }
+    {
+        self.w
+    }
+
+    /// The greatest span of the erasures of a window that has more than `n` of them, in slots.
+    pub fn b(&self) -> u32
+        ensures number { result ≡ self.now.b }
+        ensures limits { IsChannel self.now }
+    {
+        self.b
+    }
+
+    /// How many erasures a window may have whatever their span.
+    pub fn n(&self) -> u32
+        ensures number { result ≡ self.now.n }
+        ensures limits { IsChannel self.now }
+    {
+        self.n
+    }
+
+    /// The deadline: a source block is due this many slots after its own.
+    pub fn t(&self) -> u32
+        ensures number { result ≡ self.now.t }
+        ensures limits { IsChannel self.now }
+    {
+        self.t
+    }
+}

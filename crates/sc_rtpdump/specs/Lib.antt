@@ -1,0 +1,5 @@
+pub mod Entry
+pub mod Preamble
+pub mod Capture
+pub mod Thinned
+pub mod Readings

@@ -1,0 +1,8 @@
+//! Captures of RTP packets in this project's profile of the binary rtpdump format: reading, writing and thinning them.
+#![tactic(auto)]
+
+mod fault;
+mod thin;
+
+pub use fault::DumpFault;
+pub use thin::{DropFault, Dropped};
