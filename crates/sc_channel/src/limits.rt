@@ -107,3 +107,25 @@ impl Channel {
         self.t
     }
 }
+
+#[cfg(test)]
+mod tests {
+    use super::{BadChannel, Channel};
+    use std::test::Fail;
+
+    #[test]
+    fn says_why_numbers_are_no_channel(rt: HostRuntime) -> Result<(), Fail> {
+        assert_eq!(rt; Channel::new(3, 2, 3, 2), Err(BadChannel::Order));
+        assert_eq!(rt; Channel::new(256, 2, 1, 2), Err(BadChannel::Range));
+        let order = format!(in rt.alloc(); "{}", BadChannel::Order)?;
+        assert_eq!(rt; order.as_str(), "not 1 <= N <= B <= T < W");
+        let range = format!(in rt.alloc(); "{}", BadChannel::Range)?;
+        assert_eq!(rt; range.as_str(), "W above 255 or T above 40");
+        let greatest = Channel::new(255, 40, 40, 40)?;
+        assert_eq!(rt;
+            (greatest.w(), greatest.b(), greatest.n(), greatest.t()),
+            (255, 40, 40, 40)
+        );
+        Ok(())
+    }
+}

@@ -26,7 +26,8 @@ pub fn first_bad_window(channel: &Channel, flags: &[bool]) -> Option<usize>
         set = recent_count(flags, w, i, set);
         early_end = early_end_at(flags, b, i, early_end);
         // The parts of at most `w` flags that end before flag `i` are fine. So the longest one that
-        // ends with it is bad only where flag `i` is set, with another at least `b` places before.
+        // ends with it isn't fine only where flag `i` is set, more than `n` of its flags are, and one
+        // of these lies at least `b` places before flag `i`. Then it stands in the window `start`.
         let start = (i + 1).saturating_sub(w);
         if flags[i] && n < set && start < early_end {
             return Some(start);

@@ -1,5 +1,6 @@
+pub mod Buffer
+pub mod Capture
 pub mod Entry
 pub mod Preamble
-pub mod Capture
-pub mod Thinned
 pub mod Readings
+pub mod Thinned

@@ -1,6 +1,7 @@
 -- What the calls that read and thin a capture answer, and what they do to their port.
-use Rattle.std.specs.Prelude.{◌≡◌, ℕ, ◌<◌, ◌≤◌, Bool, true, false, None, IfSome, List, [], ◌++◌, length, Result, Ok, Err}
+use Rattle.std.specs.Prelude.{◌≡◌, ℕ, ◌+◌, ◌^◌, ◌<◌, ◌≤◌, Bool, true, false, Option, Some, None, IfSome, List, [], ◌++◌, length, Result, Ok, Err}
 use Rattle.std.specs.Io.KnownBytes.{IsAtEnd, Appends}
+use Rattle.sc_outside.specs.declared.error.Failed.{Failed}
 use Rattle.sc_outside.specs.Faults.{Rose}
 use Rattle.sc_outside.specs.Port.{Told, Takes}
 use Rattle.sc_rtpdump.specs.declared.fault.DumpFault.{DumpFault}
@@ -8,7 +9,8 @@ use Rattle.sc_rtpdump.specs.declared.fault.DumpFault.TheVariants.{Preamble, Reco
 use Rattle.sc_rtpdump.specs.declared.thin.DropFault.{DropFault}
 use Rattle.sc_rtpdump.specs.declared.thin.DropFault.TheVariants.{Dump, More, Fewer, Write}
 use Rattle.sc_rtpdump.specs.declared.thin.Dropped.{Dropped}
-use Rattle.sc_rtpdump.specs.Entry.{Entry, IsEntry, empty_entry, entry_bytes, length_field}
+use Rattle.sc_rtpdump.specs.declared.head.Head.{Head}
+use Rattle.sc_rtpdump.specs.Entry.{Entry, IsEntry, empty_entry, entry_bytes, head_bytes, length_field}
 use Rattle.sc_rtpdump.specs.Preamble.{IsPreamble, preamble_len}
 use Rattle.sc_rtpdump.specs.Capture.{reading_of}
 use Rattle.sc_rtpdump.specs.Thinned.{thin_end, thin_text}
@@ -34,6 +36,10 @@ PreambleGives old new (Err (RecordHead i)) = ⊥
 PreambleGives old new (Err (RecordLength i)) = ⊥
 PreambleGives old new (Err (Truncated i)) = ⊥
 
+-- the numbers of a head fit their fields
+abbrev pub IsHead : Head → Type 0
+IsHead head = (head.len < 2 ^ 16) × (head.plen < 2 ^ 16) × (head.offset < 2 ^ 32)
+
 -- one to seven bytes
 abbrev pub IsPartHead : List ℕ → Type 0
 IsPartHead bytes = (0 < length bytes) × (length bytes < 8)
@@ -49,6 +55,35 @@ IsPartBody bytes = (8 ≤ length bytes) × (length bytes < length_field bytes)
 -- less than a whole record: part of the eight bytes before a body, or all of them and part of the body
 abbrev pub IsBelowRecord : List ℕ → Type 0
 IsBelowRecord bytes = 8 ≤ length bytes → length bytes < length_field bytes
+
+-- What reading a body answers, where this is what stands in its place then: true with the body, exactly whose bytes were
+-- taken, and false where the input ends before.
+abbrev pub BodyGives : Told → Told → List ℕ → Result Bool Failed → Type 0
+BodyGives old new body (Ok true) = Takes old new body
+BodyGives old new body (Ok false) = TakesSome old new (λ bytes. length bytes < length body) × IsAtEnd new.left
+BodyGives old new body (Err e) = TakesSome old new (λ bytes. length bytes < length body) × Rose old.read_faults new.read_faults
+
+-- What reading a record behind its head answers, and what the record is then: true with the record that the head and the
+-- body spell, false where the input ends before. At all but true it is empty.
+abbrev pub FillGives : Told → Told → Head → Entry → Result Bool Failed → Type 0
+FillGives old new head entry (Ok true) =
+    IsEntry entry × Takes old new entry.body × (entry ≡ record { plen = head.plen; offset = head.offset; body = entry.body }) × (8 + length entry.body ≡ head.len)
+FillGives old new head entry (Ok false) =
+    (entry ≡ empty_entry) × TakesSome old new (λ bytes. 8 + length bytes < head.len) × IsAtEnd new.left
+FillGives old new head entry (Err e) =
+    (entry ≡ empty_entry) × TakesSome old new (λ bytes. 8 + length bytes < head.len) × Rose old.read_faults new.read_faults
+
+-- What reading the head of the record of this number answers: the head, exactly whose bytes were taken, with a length of
+-- 8 or more, and `None` at the end of the input.
+abbrev pub HeadGives : ℕ → Told → Told → Result (Option Head) DumpFault → Type 0
+HeadGives index old new (Ok (Some head)) = (8 ≤ head.len) × IsHead head × Takes old new (head_bytes head.len head.plen head.offset)
+HeadGives index old new (Ok None) = Takes old new [] × IsAtEnd new.left
+HeadGives index old new (Err (RecordHead i)) = (i ≡ index) × TakesSome old new IsPartHead × IsAtEnd new.left
+HeadGives index old new (Err (RecordLength i)) = (i ≡ index) × TakesSome old new IsHeadTooShort
+HeadGives index old new (Err Read) = TakesSome old new (λ bytes. length bytes < 8) × Rose old.read_faults new.read_faults
+HeadGives index old new (Err (Truncated i)) = ⊥
+HeadGives index old new (Err Preamble) = ⊥
+HeadGives index old new (Err Memory) = ⊥
 
 -- What reading the record of this number answers, and what the record is afterwards. True comes with the next record,
 -- exactly whose bytes were taken, and false at the end of the input. `RecordHead` comes where one to seven bytes are

@@ -2,7 +2,10 @@
 #![tactic(auto)]
 
 mod fault;
+mod head;
+mod record;
 mod thin;
 
 pub use fault::DumpFault;
+pub use record::DumpRecord;
 pub use thin::{DropFault, Dropped};

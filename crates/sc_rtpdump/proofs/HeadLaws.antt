@@ -1,0 +1,55 @@
+-- The eight bytes before a record's body, and the numbers that they spell.
+use Rattle.std.proofs.Common.{◌≡◌, ℕ, zero, suc, ◌+◌, ◌^◌, ◌<◌, ◌≤◌, List, [], ◌∷◌, ◌++◌, length, take, get_or, refl, sym, ap, ◌∙◌, subst, arith}
+use Rattle.std.proofs.lemmas.Nat.{be_bytes_2, be_bytes_4, from_be_bytes-to_be_bytes_2}
+use Rattle.std.specs.Int.{w16, w32, to_be_bytes, from_be_bytes}
+use Rattle.sc_rtpdump.specs.Entry.{head_bytes, length_field}
+
+-- eight bytes, in the three fields
+abbrev pub fields_of : List ℕ → List ℕ
+fields_of bs =
+    (get_or bs 0 0 ∷ get_or bs 1 0 ∷ [])
+    ++ ((get_or bs 2 0 ∷ get_or bs 3 0 ∷ []) ++ (get_or bs 4 0 ∷ get_or bs 5 0 ∷ get_or bs 6 0 ∷ get_or bs 7 0 ∷ []))
+
+eight : (bs : List ℕ) → length bs ≡ 8 → bs ≡ fields_of bs
+eight (a ∷ b ∷ c ∷ d ∷ e ∷ f ∷ g ∷ h ∷ []) size = refl
+eight (a ∷ b ∷ c ∷ d ∷ e ∷ f ∷ g ∷ h ∷ i ∷ bs) size = absurd (omega arith)
+eight (a ∷ b ∷ c ∷ d ∷ e ∷ f ∷ g ∷ []) size = absurd (omega arith)
+eight (a ∷ b ∷ c ∷ d ∷ e ∷ f ∷ []) size = absurd (omega arith)
+eight (a ∷ b ∷ c ∷ d ∷ e ∷ []) size = absurd (omega arith)
+eight (a ∷ b ∷ c ∷ d ∷ []) size = absurd (omega arith)
+eight (a ∷ b ∷ c ∷ []) size = absurd (omega arith)
+eight (a ∷ b ∷ []) size = absurd (omega arith)
+eight (a ∷ []) size = absurd (omega arith)
+eight [] size = absurd (omega arith)
+
+two_fit : (a b : ℕ) → a < 256 → b < 256 → (i : ℕ) → get_or (a ∷ b ∷ []) i 0 < 256
+two_fit a b f g zero = f
+two_fit a b f g (suc zero) = g
+two_fit a b f g (suc (suc i)) = omega arith
+
+four_fit : (a b c d : ℕ) → a < 256 → b < 256 → c < 256 → d < 256 → (i : ℕ) → get_or (a ∷ b ∷ c ∷ d ∷ []) i 0 < 256
+four_fit a b c d f g h k zero = f
+four_fit a b c d f g h k (suc zero) = g
+four_fit a b c d f g h k (suc (suc zero)) = h
+four_fit a b c d f g h k (suc (suc (suc zero))) = k
+four_fit a b c d f g h k (suc (suc (suc (suc i)))) = omega arith
+
+-- the numbers that eight bytes spell are spelled by them
+pub head_bytes-from : (bs : List ℕ) (len plen offset : ℕ) → length bs ≡ 8 → ((i : ℕ) → get_or bs i 0 < 256)
+    → len ≡ from_be_bytes w16 (get_or bs 0 0 ∷ get_or bs 1 0 ∷ [])
+    → plen ≡ from_be_bytes w16 (get_or bs 2 0 ∷ get_or bs 3 0 ∷ [])
+    → offset ≡ from_be_bytes w32 (get_or bs 4 0 ∷ get_or bs 5 0 ∷ get_or bs 6 0 ∷ get_or bs 7 0 ∷ [])
+    → bs ≡ head_bytes len plen offset
+head_bytes-from bs len plen offset size fits a b c =
+    let first = be_bytes_2 (get_or bs 0 0 ∷ get_or bs 1 0 ∷ []) len refl (two_fit _ _ (fits 0) (fits 1)) a in
+    let second = be_bytes_2 (get_or bs 2 0 ∷ get_or bs 3 0 ∷ []) plen refl (two_fit _ _ (fits 2) (fits 3)) b in
+    let third = be_bytes_4 (get_or bs 4 0 ∷ get_or bs 5 0 ∷ get_or bs 6 0 ∷ get_or bs 7 0 ∷ []) offset refl (four_fit _ _ _ _ (fits 4) (fits 5) (fits 6) (fits 7)) c in
+    eight bs size
+    ∙ ap (λ l. l ++ ((get_or bs 2 0 ∷ get_or bs 3 0 ∷ []) ++ (get_or bs 4 0 ∷ get_or bs 5 0 ∷ get_or bs 6 0 ∷ get_or bs 7 0 ∷ []))) (sym first)
+    ∙ ap (λ l. to_be_bytes w16 len ++ (l ++ (get_or bs 4 0 ∷ get_or bs 5 0 ∷ get_or bs 6 0 ∷ get_or bs 7 0 ∷ []))) (sym second)
+    ∙ ap (λ l. to_be_bytes w16 len ++ (to_be_bytes w16 plen ++ l)) (sym third)
+
+-- the length that stands in a head, whatever follows
+pub length_field-head : (len plen offset : ℕ) (rest : List ℕ) → len < 2 ^ 16 → length_field (head_bytes len plen offset ++ rest) ≡ len
+unfolding length_field
+length_field-head len plen offset rest fits = from_be_bytes-to_be_bytes_2 len fits
