@@ -1,5 +1,6 @@
+pub mod FaultsLaws
 pub mod JournalLaws
+pub mod MemoryLaws
 pub mod MovesLaws
 pub mod Parts
-pub mod FaultsLaws
-pub mod MemoryLaws
+pub mod WholeLaws

@@ -53,3 +53,7 @@ head_bytes-from bs len plen offset size fits a b c =
 pub length_field-head : (len plen offset : ℕ) (rest : List ℕ) → len < 2 ^ 16 → length_field (head_bytes len plen offset ++ rest) ≡ len
 unfolding length_field
 length_field-head len plen offset rest fits = from_be_bytes-to_be_bytes_2 len fits
+
+pub length_field-spelled : (bytes : List ℕ) (len plen offset : ℕ) → bytes ≡ head_bytes len plen offset → len < 2 ^ 16 → length_field bytes ≡ len
+unfolding length_field
+length_field-spelled bytes len plen offset e fits = ap length_field e ∙ from_be_bytes-to_be_bytes_2 len fits

@@ -36,6 +36,11 @@ PreambleGives old new (Err (RecordHead i)) = ⊥
 PreambleGives old new (Err (RecordLength i)) = ⊥
 PreambleGives old new (Err (Truncated i)) = ⊥
 
+-- the same of reading into a buffer, where this is what stands there then
+abbrev pub PartsGive : Told → Told → List ℕ → Result Unit DumpFault → Type 0
+PartsGive old new bytes (Ok done) = PreambleGives old new (Ok bytes)
+PartsGive old new bytes (Err fault) = PreambleGives old new (Err fault) × (fault ≡ Memory → ⊥)
+
 -- the numbers of a head fit their fields
 abbrev pub IsHead : Head → Type 0
 IsHead head = (head.len < 2 ^ 16) × (head.plen < 2 ^ 16) × (head.offset < 2 ^ 32)

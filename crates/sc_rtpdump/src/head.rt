@@ -26,8 +26,8 @@ impl Head {
     };
 
     /// The head that eight bytes spell.
-    pub fn from_bytes(bytes: [u8; HEAD]) -> Head
-        ensures spelled { bytes ≡ head_bytes result.len result.plen result.offset }
+    pub fn from_bytes(bytes: &[u8; HEAD]) -> Head
+        ensures spelled { bytes.now ≡ head_bytes result.len result.plen result.offset }
         ensures fits { IsHead result }
     {
         Head {
@@ -58,7 +58,7 @@ pub fn read_head<P: Port>(port: &mut P, index: u32) -> Result<Option<Head>, Dump
     match read_exact_or_end(port, &mut bytes) {
         Ok(0) => Ok(None),
         Ok(HEAD) => {
-            let head = Head::from_bytes(bytes);
+            let head = Head::from_bytes(&bytes);
             if head.len < 8 {
                 return Err(DumpFault::RecordLength(index));
             }
