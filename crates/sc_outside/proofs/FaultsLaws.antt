@@ -1,5 +1,5 @@
 -- A count that rose in one part of a run rose in the whole of it.
-use Rattle.std.proofs.Common.{◌≡◌, ℕ, ◌≤◌, arith}
+use Rattle.std.proofs.Common.{ℕ, ◌≤◌, arith}
 use Rattle.sc_outside.specs.Faults.{Rose}
 
 pub Rose-earlier : (a b c : ℕ) → a ≤ b → Rose b c → Rose a c

@@ -1,5 +1,5 @@
 -- Journals one after the other.
-use Rattle.std.proofs.Common.{◌≡◌, ℕ, ◌+◌, List, [], ◌∷◌, ◌++◌, Option, None, Some, refl, sym, ap, ◌∙◌, subst, arith, append_assoc, append-nil}
+use Rattle.std.proofs.Common.{◌≡◌, ℕ, ◌+◌, List, [], ◌∷◌, ◌++◌, Option, None, Some, refl, sym, ap, ◌∙◌, arith, append_assoc, append-nil}
 use Rattle.sc_outside.specs.declared.journal.Move.{Move}
 use Rattle.sc_outside.specs.declared.journal.Move.TheVariants.{Read, Written}
 use Rattle.sc_outside.specs.Journal.{bytes_read, bytes_written, LogsOne, Logs}

@@ -1,10 +1,10 @@
 -- What the calls of a port and a sink in memory do is what the traits ask.
-use Rattle.std.proofs.Common.{◌≡◌, ℕ, ◌+◌, ◌-◌, ◌^◌, ◌<◌, ◌≤◌, ◌||◌, Bool, true, false, Some, List, [], ◌∷◌, ◌++◌, length, take, drop, min, nat_le, IfOk, Result, Ok, Err, refl, sym, ap, ◌∙◌, subst, arith}
+use Rattle.std.proofs.Common.{◌≡◌, ℕ, ◌-◌, ◌^◌, ◌<◌, ◌≤◌, ◌||◌, Bool, true, false, Some, List, [], ◌∷◌, ◌++◌, length, take, drop, nat_le, IfOk, Result, Ok, Err, refl, sym, ap, ◌∙◌, arith}
 use Rattle.std.proofs.lemmas.List.{take-append-drop}
 use Rattle.std.proofs.lemmas.Bool.{leb-false}
 use Rattle.sc_outside.specs.declared.error.Failed.{Failed}
 use Rattle.sc_outside.specs.Faults.{Rose}
-use Rattle.sc_outside.specs.Port.{Told, ReadGives, WriteGives}
+use Rattle.sc_outside.specs.Port.{ReadGives, WriteGives}
 use Rattle.sc_outside.specs.Sink.{SinkGives}
 use Rattle.sc_outside.specs.Memory.{counted, MemoryState, IsMemory, told_by, ReadsAs, WritesAs, is_refused, SinkState, IsMemorySink, told_by_sink, SinksAs}
 

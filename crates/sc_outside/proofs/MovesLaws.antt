@@ -1,9 +1,7 @@
 -- What a port's moments have to do with each other: nothing moved, one call, and one stretch after another.
-use Rattle.std.proofs.Common.{◌≡◌, ℕ, ◌+◌, ◌<◌, ◌≤◌, List, [], ◌++◌, length, take, Option, None, Some, refl, sym, ap, ◌∙◌, subst, arith, length-append, length-take, append-nil, min}
+use Rattle.std.proofs.Common.{◌≡◌, ℕ, ◌≤◌, List, [], ◌++◌, length, take, Option, refl, sym, ◌∙◌, subst, arith, length-append, length-take}
 use Rattle.std.specs.Io.KnownBytes.{Consumes, Appends}
 use Rattle.std.proofs.KnownBytes.{Consumes-nil, Appends-nil, Appends-trans, Consumes-trans}
-use Rattle.sc_outside.specs.declared.journal.Move.{Move}
-use Rattle.sc_outside.specs.Journal.{Logs}
 use Rattle.sc_outside.specs.Port.{Told, MovesIn, MovesOut, IsUntouched, ReadFails, WriteFails, Moves, Takes, Puts}
 use Rattle.sc_outside.proofs.JournalLaws.{Logs-none, Logs-read, Logs-written, Logs-trans}
 

@@ -1,5 +1,5 @@
 -- Parts of a piece that are written one after the other.
-use Rattle.std.proofs.Common.{◌≡◌, ℕ, ◌+◌, ◌<◌, ◌≤◌, List, ◌++◌, length, sym, ap, ◌∙◌, arith, length-append, append_assoc}
+use Rattle.std.proofs.Common.{ℕ, List, ◌++◌, sym, ap, ◌∙◌, arith, length-append, append_assoc}
 use Rattle.sc_outside.specs.Port.{Told, Puts}
 use Rattle.sc_outside.specs.Whole.{PutsPart}
 use Rattle.sc_outside.proofs.FaultsLaws.{Rose-earlier}
@@ -13,7 +13,7 @@ PutsPart-first old new a b h = record {
   parts = ap (λ l. l ++ b) h.parts ∙ append_assoc h.put h.rest b;
   short = omega (arith, length-append h.rest b, h.short);
   puts = h.puts;
-  rose = h.rose
+  rose = h.rose;
 }
 
 -- a write failed after the first part
@@ -24,5 +24,5 @@ PutsPart-then old mid new a b p h = record {
   parts = ap (λ l. a ++ l) h.parts ∙ sym (append_assoc a h.put h.rest);
   short = h.short;
   puts = Puts-trans old mid new a h.put p h.puts;
-  rose = Rose-earlier _ _ _ p.moves.write_faults h.rose
+  rose = Rose-earlier _ _ _ p.moves.write_faults h.rose;
 }

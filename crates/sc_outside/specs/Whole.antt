@@ -1,5 +1,5 @@
 -- What reading until a buffer is full, and writing a whole piece, do to what a port tells.
-use Rattle.std.specs.Prelude.{◌≡◌, ℕ, ◌<◌, ◌≤◌, List, [], ◌++◌, length, take}
+use Rattle.std.specs.Prelude.{◌≡◌, ℕ, ◌<◌, ◌≤◌, List, ◌++◌, length, take}
 use Rattle.std.specs.Io.KnownBytes.{IsAtEnd}
 use Rattle.sc_outside.specs.Faults.{Rose}
 use Rattle.sc_outside.specs.Port.{Told, Takes, Puts}

@@ -25,7 +25,7 @@ HoldsEntry-made len plen offset rest size head bound small_plen small_offset =
       head = head;
       bound = bound;
       spelled = spelled ∙ ap (λ n. head_bytes n plen offset ++ body) (sym again);
-      fits = record { plen = small_plen; offset = small_offset; body = omega (arith, count) }
+      fits = record { plen = small_plen; offset = small_offset; body = omega (arith, count) };
     }
 
 -- a buffer whose front was overwritten by a head

@@ -4,3 +4,8 @@ pub mod NextLaws
 pub mod LineLaws
 pub mod PreambleLaws
 pub mod PartsLaws
+pub mod CaptureLaws
+pub mod StepLaws
+pub mod ThinLaws
+pub mod EndLaws
+pub mod DropLaws

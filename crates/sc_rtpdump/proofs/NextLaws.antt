@@ -30,12 +30,16 @@ next_cut index old mid new head e t h f =
     let front = head_bytes head.len head.plen head.offset in
     let part = f.1.taken in
     let size : length (front ++ part) ≡ 8 + length part = length-append front part in
-    let field : length_field (front ++ part) ≡ head.len = length_field-head head.len head.plen head.offset part h.0 in
-    (f.0, refl, record {
-      taken = front ++ part;
-      takes = Takes-trans old mid new front part t f.1.takes;
-      holds = (omega (arith, size), omega (arith, size, field, f.1.holds))
-    }, f.2)
+    let field : length_field (front ++ part) ≡ head.len = length_field-head head.len head.plen head.offset part h.0 in (
+      f.0,
+      refl,
+      record {
+        taken = front ++ part;
+        takes = Takes-trans old mid new front part t f.1.takes;
+        holds = (omega (arith, size), omega (arith, size, field, f.1.holds));
+      },
+      f.2,
+    )
 
 pub next_failed : (index : ℕ) (old mid new : Told) (head : Head) (e : Entry) (d : Failed) → Takes old mid (head_bytes head.len head.plen head.offset) → IsHead head
     → FillGives mid new head e (Err d) → NextGives index old new (Err Read) e
@@ -43,12 +47,15 @@ next_failed index old mid new head e d t h f =
     let front = head_bytes head.len head.plen head.offset in
     let part = f.1.taken in
     let size : length (front ++ part) ≡ 8 + length part = length-append front part in
-    let field : length_field (front ++ part) ≡ head.len = length_field-head head.len head.plen head.offset part h.0 in
-    (f.0, record {
-      taken = front ++ part;
-      takes = Takes-trans old mid new front part t f.1.takes;
-      holds = λ _. omega (arith, size, field, f.1.holds)
-    }, Rose-earlier _ _ _ t.moves.read_faults f.2)
+    let field : length_field (front ++ part) ≡ head.len = length_field-head head.len head.plen head.offset part h.0 in (
+      f.0,
+      record {
+        taken = front ++ part;
+        takes = Takes-trans old mid new front part t f.1.takes;
+        holds = λ _. omega (arith, size, field, f.1.holds);
+      },
+      Rose-earlier _ _ _ t.moves.read_faults f.2,
+    )
 
 -- a record is written as its head and its body
 spelled : (plen offset : ℕ) (body head : List ℕ) → head ≡ head_bytes (8 + length body) plen offset → head ++ body ≡ entry_bytes (record { plen = plen; offset = offset; body = body })

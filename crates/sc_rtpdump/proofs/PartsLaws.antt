@@ -25,7 +25,7 @@ missing old new bytes taken t h = ((record { taken = taken; takes = t; holds = t
 
 pub magic_missing : (old new : Told) (bytes : List ℕ) → MagicGives old new (Ok false) → PartsGive old new bytes (Err Preamble)
 magic_missing old new bytes m = elim m as (λ _. PartsGive old new bytes (Err Preamble)) [
-    inl other ↦ missing old new bytes other.taken other.takes
+  | inl other ↦ missing old new bytes other.taken other.takes
       (IfSome-front _ _ other.taken HasNoPreamble other.takes.moves.left (λ rest. other_beginning other.taken rest other.holds.0 other.holds.1))
   | inr short ↦ missing old new bytes short.0.taken short.0.takes
       (Consumes-whole _ _ short.0.taken HasNoPreamble short.0.takes.moves.left short.1 (short_beginning short.0.taken short.0.holds))
@@ -53,12 +53,17 @@ line_missing old mid new bytes buf size m l =
     (line_ends old mid new buf l.taken size m l.takes l.holds.0 l.holds.1 (either 4083 (length l.taken)))
 
 pub line_failed : (old mid new : Told) (bytes buf : List ℕ) (e : Failed) → MagicGives old mid (Ok true) → LineGives mid new buf (Err e) → PartsGive old new bytes (Err Read)
-line_failed old mid new bytes buf e m l =
-    ((record {
+line_failed old mid new bytes buf e m l = (
+  (
+    record {
       taken = magic ++ l.0.taken;
       takes = Takes-trans old mid new magic l.0.taken m l.0.takes;
-      holds = no_newline l.0.taken l.0.holds
-    }, Rose-earlier _ _ _ m.moves.read_faults l.1), λ x. cc)
+      holds = no_newline l.0.taken l.0.holds;
+    },
+    Rose-earlier _ _ _ m.moves.read_faults l.1,
+  ),
+  λ x. cc,
+)
 
 -- the magic, a line and what follows it
 three : (buf more : List ℕ) (i : ℕ) → take (i + 1) buf ≡ take i buf ++ 10 ∷ [] → (magic ++ take (i + 1) buf) ++ more ≡ magic ++ (take i buf ++ 10 ∷ more)
@@ -76,28 +81,34 @@ fields_missing old mid low new bytes buf fields i n size other m l f =
     let few : length part < 16 = omega (arith, length-take n fields, f.bound, size, other) in
     missing old new bytes ((magic ++ take (i + 1) buf) ++ part) whole
     (Consumes-whole _ _ _ HasNoPreamble whole.moves.left (f.end (omega (arith, f.bound, size, other)))
-      (subst HasNoPreamble (sym (three buf part i l.2)) (few_fields (take i buf) part l.1 few)))
+    (subst HasNoPreamble (sym (three buf part i l.2)) (few_fields (take i buf) part l.1 few)))
 
 pub fields_failed : (old mid low new : Told) (bytes buf : List ℕ) (i : ℕ) → MagicGives old mid (Ok true) → LineGives mid low buf (Ok (Some i))
     → StopsShort low new 16 → PartsGive old new bytes (Err Read)
 fields_failed old mid low new bytes buf i m l f =
-    let so_far = takes_two old mid low buf i m l in
-    ((record {
-      taken = (magic ++ take (i + 1) buf) ++ f.taken;
-      takes = Takes-trans old low new (magic ++ take (i + 1) buf) f.taken so_far f.takes;
-      holds = subst HasNoPreamble (sym (three buf f.taken i l.2)) (few_fields (take i buf) f.taken l.1 f.short)
-    }, Rose-earlier _ _ _ so_far.moves.read_faults f.rose), λ x. cc)
+    let so_far = takes_two old mid low buf i m l in (
+      (
+        record {
+          taken = (magic ++ take (i + 1) buf) ++ f.taken;
+          takes = Takes-trans old low new (magic ++ take (i + 1) buf) f.taken so_far f.takes;
+          holds = subst HasNoPreamble (sym (three buf f.taken i l.2)) (few_fields (take i buf) f.taken l.1 f.short);
+        },
+        Rose-earlier _ _ _ so_far.moves.read_faults f.rose,
+      ),
+      λ x. cc,
+    )
 
 pub parts_done : (old mid low new : Told) (bytes buf fields : List ℕ) (i n : ℕ) → length buf ≡ 4083 → length fields ≡ 16 → n ≡ 16 → MagicGives old mid (Ok true)
     → LineGives mid low buf (Ok (Some i)) → FillsOrEnds low new n fields → bytes ≡ (magic ++ take (i + 1) buf) ++ fields → IsPreamble bytes × Takes old new bytes
-parts_done old mid low new bytes buf fields i n room size all m l f e =
-    (record {
-      line = take i buf;
-      fields = fields;
-      parts = e ∙ three buf fields i l.2;
-      one_line = l.1;
-      short_line = omega (arith, length-take i buf, l.0, room);
-      all_fields = size
-    },
-     subst (Takes old new) (ap (λ x. (magic ++ take (i + 1) buf) ++ x) (take_all n fields (omega (arith, size, all))) ∙ sym e)
-     (Takes-trans old low new (magic ++ take (i + 1) buf) (take n fields) (takes_two old mid low buf i m l) f.takes))
+parts_done old mid low new bytes buf fields i n room size all m l f e = (
+  record {
+    line = take i buf;
+    fields = fields;
+    parts = e ∙ three buf fields i l.2;
+    one_line = l.1;
+    short_line = omega (arith, length-take i buf, l.0, room);
+    all_fields = size;
+  },
+  subst (Takes old new) (ap (λ x. (magic ++ take (i + 1) buf) ++ x) (take_all n fields (omega (arith, size, all))) ∙ sym e)
+      (Takes-trans old low new (magic ++ take (i + 1) buf) (take n fields) (takes_two old mid low buf i m l) f.takes),
+)

@@ -103,7 +103,7 @@ pub preamble_len-is : (pre rest : List ℕ) → IsPreamble pre → preamble_len 
 preamble_len-is pre rest h =
     let behind = h.fields ++ rest in
     let whole : pre ++ rest ≡ magic ++ (h.line ++ 10 ∷ behind) =
-      ap (λ l. l ++ rest) h.parts ∙ append_assoc magic (h.line ++ 10 ∷ h.fields) rest ∙ ap (λ l. magic ++ l) (append_assoc h.line (10 ∷ h.fields) rest) in
+    ap (λ l. l ++ rest) h.parts ∙ append_assoc magic (h.line ++ 10 ∷ h.fields) rest ∙ ap (λ l. magic ++ l) (append_assoc h.line (10 ∷ h.fields) rest) in
     let size = length-append h.line (10 ∷ behind) in
     ap preamble_len whole
     ∙ after_magic (h.line ++ 10 ∷ behind)

@@ -26,7 +26,7 @@ with_first entry parts = record { entries = entry ∷ parts.entries; tail = part
 abbrev pub parts_within : ℕ → List ℕ → Parts
 parts_within zero bytes = record { entries = []; tail = bytes }
 parts_within (suc n) bytes = elim (front_of bytes) as (λ _. Parts) [
-    ends ↦ record { entries = []; tail = bytes }
+  | ends ↦ record { entries = []; tail = bytes }
   | breaks break ↦ record { entries = []; tail = bytes }
   | starts entry rest ↦ with_first entry (parts_within n rest)
 ]

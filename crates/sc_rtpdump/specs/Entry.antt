@@ -50,7 +50,7 @@ abbrev pub entry_at : List ℕ → Entry
 entry_at bytes = record {
   plen = from_be_bytes w16 (take 2 (drop 2 bytes));
   offset = from_be_bytes w32 (take 4 (drop 4 bytes));
-  body = drop 8 (take (length_field bytes) bytes)
+  body = drop 8 (take (length_field bytes) bytes);
 }
 
 unfoldable pub front_of : List ℕ → Front

@@ -5,3 +5,4 @@ pub mod Lines
 pub mod Preamble
 pub mod Readings
 pub mod Thinned
+pub mod Thinning

@@ -111,21 +111,7 @@ pub record GivesFront (old new : Told) (text : List ℕ) : Type 0 where
   pub parts : text ≡ put ++ rest
   pub given : Appends old.given new.given put
 
--- the input decided the answer: it is the one that the reading of all that was left gives, and its text was given
-abbrev pub IsDecided : List Bool → Told → Told → Result Dropped DropFault → Type 0
-IsDecided flags old new result = IfSome old.left (λ input.
-    (result ≡ thin_end flags (reading_of input)) × Appends old.given new.given (thin_text flags (reading_of input)))
-
--- What thinning answers. `Read` comes only where a read failed, `Write` only where a write failed, and `Memory` before
--- anything was given. All else is decided by the input, and after `Ok` nothing is left of it.
-abbrev pub DropGives : List Bool → Told → Told → Result Dropped DropFault → Type 0
-DropGives flags old new (Err (Dump Read)) = Rose old.read_faults new.read_faults
-DropGives flags old new (Err (Dump Memory)) = Appends old.given new.given []
-DropGives flags old new (Err Write) = Rose old.write_faults new.write_faults
-DropGives flags old new (Ok dropped) = IsDecided flags old new (Ok dropped) × IsAtEnd new.left
-DropGives flags old new (Err More) = IsDecided flags old new (Err More)
-DropGives flags old new (Err (Fewer n)) = IsDecided flags old new (Err (Fewer n))
-DropGives flags old new (Err (Dump Preamble)) = IsDecided flags old new (Err (Dump Preamble))
-DropGives flags old new (Err (Dump (RecordHead i))) = IsDecided flags old new (Err (Dump (RecordHead i)))
-DropGives flags old new (Err (Dump (RecordLength i))) = IsDecided flags old new (Err (Dump (RecordLength i)))
-DropGives flags old new (Err (Dump (Truncated i))) = IsDecided flags old new (Err (Dump (Truncated i)))
+-- no count of faults fell
+pub record IsLater (old new : Told) : Type 0 where
+  pub read_faults : old.read_faults ≤ new.read_faults
+  pub write_faults : old.write_faults ≤ new.write_faults

@@ -16,10 +16,6 @@ kept (flag ∷ flags) [] = []
 kept (true ∷ flags) (entry ∷ entries) = kept flags entries
 kept (false ∷ flags) (entry ∷ entries) = entry ∷ kept flags entries
 
--- the thinned capture
-unfoldable pub thinned : List Bool → List ℕ → List Entry → List ℕ
-thinned flags preamble entries = preamble ++ entries_bytes (kept flags entries)
-
 -- the fault of a tail that begins with no record, where so many records stand before it
 abbrev pub break_fault : ℕ → Break → DumpFault
 break_fault i short_head = RecordHead i
@@ -32,13 +28,25 @@ end_at flags n (breaks break) = Err (Dump (break_fault n break))
 end_at flags n ends = if nat_lt n (length flags) then Err (Fewer n) else Ok (record { records = length flags; lost = set_count flags })
 end_at flags n (starts entry rest) = Err More
 
--- how thinning ends: a record after the last flag comes before any fault behind it
-abbrev pub thin_end : List Bool → Reading → Result Dropped DropFault
-thin_end flags no_preamble = Err (Dump Preamble)
-thin_end flags (reads preamble parts) =
+-- how thinning ends on whole records and what is behind them: a record after the last flag comes before any fault behind it
+unfoldable pub rest_end : List Bool → Parts → Result Dropped DropFault
+rest_end flags parts =
     if nat_lt (length flags) (length parts.entries) then Err More else end_at flags (length parts.entries) (front_of parts.tail)
 
--- what thinning gives: the preamble, and the records that came before its end and whose flag isn't set
+-- the records that came before the end and whose flag isn't set
+abbrev pub rest_text : List Bool → Parts → List ℕ
+rest_text flags parts = entries_bytes (kept flags parts.entries)
+
+-- how thinning a capture ends
+abbrev pub thin_end : List Bool → Reading → Result Dropped DropFault
+thin_end flags no_preamble = Err (Dump Preamble)
+thin_end flags (reads preamble parts) = rest_end flags parts
+
+-- what thinning a capture gives
 abbrev pub thin_text : List Bool → Reading → List ℕ
 thin_text flags no_preamble = []
-thin_text flags (reads preamble parts) = thinned flags preamble parts.entries
+thin_text flags (reads preamble parts) = preamble ++ rest_text flags parts
+
+-- the thinned capture: the preamble, and the records whose flag isn't set
+abbrev pub thinned : List Bool → List ℕ → List Entry → List ℕ
+thinned flags preamble entries = preamble ++ entries_bytes (kept flags entries)

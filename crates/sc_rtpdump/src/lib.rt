@@ -12,4 +12,4 @@ pub use fault::DumpFault;
 pub use next::{next_record, write_record};
 pub use preamble::{Preamble, read_preamble};
 pub use record::DumpRecord;
-pub use thin::{DropFault, Dropped};
+pub use thin::{DropFault, Dropped, drop_records};

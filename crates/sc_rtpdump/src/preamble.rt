@@ -96,11 +96,7 @@ fn read_line<P: Port>(port: &mut P, bytes: &mut [u8]) -> Result<Option<usize>, F
 
 /// Reads the three parts of a preamble, and puts them into an empty buffer with room for them. `line` has room for the
 /// longest line behind the magic.
-fn read_parts<P: Port>(
-    port: &mut P,
-    bytes: &mut Vec<u8>,
-    line: &mut [u8],
-) -> Result<(), DumpFault>
+fn read_parts<P: Port>(port: &mut P, bytes: &mut Vec<u8>, line: &mut [u8]) -> Result<(), DumpFault>
     requires empty { bytes.old.items ≡ [] }
     requires room { 4112 ≤ vec_capacity bytes.old }
     requires line { length line.old ≡ 4083 }

@@ -1,7 +1,16 @@
 //! Thinning: a capture without the records that are lost.
 
+ghost use Rattle.std.specs.Prelude.{◌≤◌, length};
+ghost use Rattle.sc_rtpdump.specs.Readings.{IsLater};
+ghost use Rattle.sc_rtpdump.specs.Thinning.{StepGives, RestGives, GivesRestFront, DropGives, GivesThinFront};
 
 use super::fault::DumpFault;
+use super::next::next_record;
+use super::preamble::read_preamble;
+use super::record::DumpRecord;
+use sc_channel::Flags;
+use sc_outside::{Failed, NoMemory, Port, write_whole};
+use std::alloc::Global;
 use std::error::Error;
 use std::fmt;
 
@@ -37,3 +46,83 @@ impl fmt::Display for DropFault {
 }
 
 impl Error for DropFault {}
+
+/// Copies the record of this number, or leaves it out where it is lost.
+fn drop_one<P: Port>(
+    port: &mut P,
+    index: u32,
+    lost: bool,
+    rec: &mut DumpRecord,
+) -> Result<(), DropFault>
+    ensures { StepGives index lost (P.told port.old) (P.told port.new) result }
+{
+    match next_record(port, index, rec) {
+        Ok(true) => {}
+        Ok(false) => return Err(DropFault::Fewer(index)),
+        Err(fault) => return Err(DropFault::Dump(fault)),
+    }
+    if lost {
+        return Ok(());
+    }
+    match write_whole(port, rec.bytes()) {
+        Ok(()) => Ok(()),
+        Err(Failed) => Err(DropFault::Write),
+    }
+}
+
+/// Copies the records behind the preamble, without those whose flag is set.
+fn drop_rest<P: Port>(
+    port: &mut P,
+    flags: &[bool],
+    rec: &mut DumpRecord,
+) -> Result<Dropped, DropFault>
+    requires { length flags.now ≤ 4000000 }
+    ensures gives { RestGives flags.now (P.told port.old) (P.told port.new) result }
+    ensures front { GivesRestFront flags.now (P.told port.old) (P.told port.new) }
+    ensures later { IsLater (P.told port.old) (P.told port.new) }
+{
+    let mut lost = 0;
+    for (i, flag) in flags.iter().enumerate() {
+        drop_one(port, i as u32, *flag, rec)?;
+        if *flag {
+            lost += 1;
+        }
+    }
+    let records = flags.len() as u32;
+    match next_record(port, records, rec) {
+        Ok(false) => Ok(Dropped { records, lost }),
+        Ok(true) => Err(DropFault::More),
+        Err(fault) => Err(DropFault::Dump(fault)),
+    }
+}
+
+/// Writes the preamble of a capture, and its records whose flag isn't set. It takes memory for a preamble and a record
+/// before it writes, and answers `Dump(Memory)` then.
+///
+/// `More` comes exactly where a whole record follows that of the last flag, and `Fewer`, with the number of records,
+/// exactly where the input ends before; the faults of `Dump` as in [`read_preamble`] and [`next_record`], and `Write` only
+/// where a write failed. After a refusal that the input decides, the preamble and the records before it whose flag isn't
+/// set were written.
+pub fn drop_records<P: Port>(
+    alloc: Global,
+    port: &mut P,
+    flags: &Flags,
+) -> Result<Dropped, DropFault>
+    requires { length flags.now ≤ 4000000 }
+    ensures gives { DropGives flags.now (P.told port.old) (P.told port.new) result }
+    ensures front { GivesThinFront flags.now (P.told port.old) (P.told port.new) }
+    ensures later { IsLater (P.told port.old) (P.told port.new) }
+{
+    let mut rec = match DumpRecord::start(alloc) {
+        Ok(rec) => rec,
+        Err(NoMemory) => return Err(DropFault::Dump(DumpFault::Memory)),
+    };
+    let preamble = match read_preamble(alloc, port) {
+        Ok(preamble) => preamble,
+        Err(fault) => return Err(DropFault::Dump(fault)),
+    };
+    match write_whole(port, preamble.bytes()) {
+        Ok(()) => drop_rest(port, flags.as_slice(), &mut rec),
+        Err(Failed) => Err(DropFault::Write),
+    }
+}

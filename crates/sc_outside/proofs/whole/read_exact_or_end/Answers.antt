@@ -1,9 +1,9 @@
-use Rattle.std.proofs.Common.{◌≡◌, ℕ, ◌+◌, ◌-◌, ◌<◌, ◌≤◌, List, ◌++◌, arith, length, take, sym, subst, ap, ◌∙◌, length-take-le, append-nil}
+use Rattle.std.proofs.Common.{◌≡◌, ◌+◌, ◌-◌, ◌++◌, arith, length, take, sym, subst, ap, ◌∙◌, length-take-le, append-nil}
 use Rattle.std.proofs.lemmas.Result.{err_from_is_err_and}
-use Rattle.sc_outside.specs.Port.{Told, Takes}
+use Rattle.sc_outside.specs.Port.{Takes}
 use Rattle.sc_outside.proofs.FaultsLaws.{Rose-earlier}
 use Rattle.sc_outside.proofs.MovesLaws.{Takes-trans, Takes-one, Takes-failed}
-use Rattle.sc_outside.proofs.Parts.{take-put_part, take-put_before, length-put_part}
+use Rattle.sc_outside.proofs.Parts.{take-put_part, length-put_part}
 use Rattle.sc_outside.proofs.whole.read_exact_or_end.Goals as goal
 use borrow.Rule.Slice.PartMut.{put_mid}
 

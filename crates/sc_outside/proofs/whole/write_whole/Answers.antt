@@ -1,6 +1,5 @@
-use Rattle.std.proofs.Common.{◌≡◌, ℕ, ◌-◌, ◌≤◌, List, ◌++◌, arith, length, take, drop, sym, ap, ◌∙◌, append_assoc}
+use Rattle.std.proofs.Common.{◌-◌, ◌++◌, length, take, drop, sym, ap, ◌∙◌, append_assoc}
 use Rattle.std.proofs.lemmas.List.{take-append-drop}
-use Rattle.sc_outside.specs.Port.{Puts}
 use Rattle.sc_outside.proofs.MovesLaws.{Puts-trans, Puts-one}
 use Rattle.sc_outside.proofs.Parts.{take-rest}
 use Rattle.sc_outside.proofs.whole.write_whole.Goals as goal

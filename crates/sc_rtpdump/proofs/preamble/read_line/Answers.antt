@@ -10,11 +10,14 @@ returns-in_err-byte g c =
     let failed = err_from_is_err_and c.from_residual.result c.from_residual.ensures.1 in
     let so_far = c.loop-i.invariant.takes in
     let last = c.in_err-byte.ensures in
-    rw failed.1 (record {
-      taken = take c.loop-i.i c.loop-i.bytes;
-      takes = takes_same _ _ _ _ so_far last.0;
-      holds = c.loop-i.invariant.one_line
-    }, Rose-earlier _ _ _ so_far.moves.read_faults last.1)
+    rw failed.1 (
+      record {
+        taken = take c.loop-i.i c.loop-i.bytes;
+        takes = takes_same _ _ _ _ so_far last.0;
+        holds = c.loop-i.invariant.one_line;
+      },
+      Rose-earlier _ _ _ so_far.moves.read_faults last.1,
+    )
 
 pub returns-in-None : goal.returns-in-None
 returns-in-None g c =
@@ -22,7 +25,7 @@ returns-in-None g c =
     record {
       taken = take c.loop-i.i c.loop-i.bytes;
       takes = takes_same _ _ _ _ c.loop-i.invariant.takes last.0;
-      holds = (c.loop-i.invariant.one_line, λ _. last.1)
+      holds = (c.loop-i.invariant.one_line, λ _. last.1);
     }
 
 pub returns-then-byte-eq10 : goal.returns-then-byte-eq10
@@ -40,5 +43,5 @@ loop-i-preserved g c =
     let within : c.loop-i.i < length c.loop-i.bytes = omega (arith, c.loop-i-test.true, c.loop-i.auto.bytes) in
     record {
       takes = takes_more _ _ _ c.loop-i.bytes c.loop-i.i c.in-Some.byte within c.loop-i.invariant.takes last;
-      one_line = one_line_more c.loop-i.bytes c.loop-i.i c.in-Some.byte within c.loop-i.invariant.one_line c.if-byte-eq10.false
+      one_line = one_line_more c.loop-i.bytes c.loop-i.i c.in-Some.byte within c.loop-i.invariant.one_line c.if-byte-eq10.false;
     }

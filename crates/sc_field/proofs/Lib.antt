@@ -1,0 +1,5 @@
+pub mod Halves
+pub mod ScaledSum
+pub mod SumSteps
+pub mod Vectors
+pub mod Tables

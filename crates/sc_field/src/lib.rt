@@ -1,0 +1,15 @@
+//! Finite fields of characteristic 2 whose elements act on bytes: GF(2) and GF(256).
+#![tactic(auto)]
+
+mod field;
+mod gf2;
+mod gf256;
+mod scale;
+
+pub use field::Field;
+pub use gf2::Gf2;
+pub use gf256::Gf256;
+pub use scale::{Multiplier, scale_add};
+
+#[cfg(test)]
+mod tests;

@@ -1,0 +1,258 @@
+-- What has been copied so far, and what the rest of the input then makes of it.
+use Rattle.std.proofs.Common.{◌≡◌, ℕ, zero, suc, ◌+◌, ◌<◌, ◌≤◌, Bool, true, false, cond, nat_lt, Option, Some, None, IfSome, List, [], ◌∷◌, ◌++◌, length, take, drop, slice_index_or, Result, Ok, Err, refl, sym, ap, ◌∙◌, subst, arith, append-nil, append_assoc, length-append, length-take, take-append-drop}
+use Rattle.std.proofs.lemmas.List.{drop_all}
+use Rattle.std.proofs.lemmas.Grind.{flat_map-append}
+use Rattle.std.proofs.lemmas.Bool.{lt-ltb, le-ltb}
+use Rattle.std.specs.List.{AllByRecursion, flat_map}
+use Rattle.std.specs.Io.KnownBytes.{Consumes, Appends, IsAtEnd}
+use Rattle.std.proofs.KnownBytes.{Consumes-whole}
+use Rattle.sc_channel.specs.Flags.{set_count}
+use Rattle.sc_outside.specs.Port.{Told, Takes, Moves}
+use Rattle.sc_outside.specs.Whole.{PutsPart}
+use Rattle.sc_outside.proofs.MovesLaws.{Moves-trans, Moves-none}
+use Rattle.sc_rtpdump.specs.declared.thin.DropFault.{DropFault}
+use Rattle.sc_rtpdump.specs.declared.thin.DropFault.TheVariants.{Dump, More, Fewer}
+use Rattle.sc_rtpdump.specs.declared.thin.Dropped.{Dropped}
+use Rattle.sc_rtpdump.specs.Entry.{Entry, IsEntry, entry_bytes, Break, Front, ends, breaks, front_of}
+use Rattle.sc_rtpdump.specs.Capture.{entries_bytes, Parts, with_first, parts_within, parts_of}
+use Rattle.sc_rtpdump.specs.Thinned.{kept, break_fault, end_at, rest_end, rest_text}
+use Rattle.sc_rtpdump.specs.Readings.{GivesFront}
+use Rattle.sc_rtpdump.specs.Thinning.{Copies, CopiesPart, Copied, IsRestDecided, GivesRestFront}
+use Rattle.sc_rtpdump.proofs.CaptureLaws.{with_all, entries-with_all, tail-with_all, parts_of-along, parts_within-none, parts_within-broken, parts_within-found, front_of-end}
+use Rattle.sc_rtpdump.proofs.PartsLaws.{IfSome-front}
+
+-- ---- records whose flag isn't set
+
+pub kept-append : (fst snd : List Bool) (es fs : List Entry) → length fst ≡ length es → kept (fst ++ snd) (es ++ fs) ≡ kept fst es ++ kept snd fs
+kept-append [] snd [] fs e = refl
+kept-append [] snd (x ∷ es) fs e = absurd (omega arith)
+kept-append (a ∷ fst) snd [] fs e = absurd (omega arith)
+kept-append (true ∷ fst) snd (x ∷ es) fs e = kept-append fst snd es fs (omega arith)
+kept-append (false ∷ fst) snd (x ∷ es) fs e = ap (λ l. x ∷ l) (kept-append fst snd es fs (omega arith))
+
+kept-none : (flags : List Bool) → kept flags [] ≡ []
+kept-none [] = refl
+kept-none (f ∷ flags) = refl
+
+kept-at : (flags : List Bool) (es fs : List Entry) → length es ≤ length flags → kept flags (es ++ fs) ≡ kept (take (length es) flags) es ++ kept (drop (length es) flags) fs
+kept-at flags es fs room =
+    let n = length es in
+    let size : length (take n flags) ≡ length es = omega (arith, length-take n flags) in
+    ap (λ l. kept l (es ++ fs)) (sym (take-append-drop n flags)) ∙ kept-append (take n flags) (drop n flags) es fs size
+
+entries_bytes-append : (es fs : List Entry) → entries_bytes (es ++ fs) ≡ entries_bytes es ++ entries_bytes fs
+entries_bytes-append es fs = flat_map-append entry_bytes es fs
+
+text-at : (flags : List Bool) (es fs : List Entry) → length es ≤ length flags
+    → entries_bytes (kept flags (es ++ fs)) ≡ entries_bytes (kept (take (length es) flags) es) ++ entries_bytes (kept (drop (length es) flags) fs)
+text-at flags es fs room =
+    ap entries_bytes (kept-at flags es fs room) ∙ entries_bytes-append (kept (take (length es) flags) es) (kept (drop (length es) flags) fs)
+
+text-all : (flags : List Bool) (es : List Entry) → length es ≤ length flags → entries_bytes (kept flags es) ≡ entries_bytes (kept (take (length es) flags) es)
+text-all flags es room =
+    ap (λ l. entries_bytes (kept flags l)) (sym (append-nil es)) ∙ text-at flags es [] room
+    ∙ ap (λ l. entries_bytes (kept (take (length es) flags) es) ++ entries_bytes l) (kept-none (drop (length es) flags))
+    ∙ append-nil (entries_bytes (kept (take (length es) flags) es))
+
+-- ---- copying on
+
+pub Copied-none : (flags : List Bool) (a : Told) → Copied flags a a 0
+Copied-none flags a = record { entries = []; fit = tt; count = refl; moves = subst (Moves a a []) (ap entries_bytes (sym (kept-none (take 0 flags)))) (Moves-none a) }
+
+All-append : (es : List Entry) (e : Entry) → AllByRecursion IsEntry es → IsEntry e → AllByRecursion IsEntry (es ++ e ∷ [])
+All-append [] e h g = (g, tt)
+All-append (x ∷ es) e h g = (h.0, All-append es e h.1 g)
+
+pub Copied-more : (flags : List Bool) (a b c : Told) (n : ℕ) (flag : Bool) → take (n + 1) flags ≡ take n flags ++ flag ∷ [] → n < length flags
+    → Copied flags a b n → Copies b c flag → Copied flags a c (n + 1)
+Copied-more flags a b c n flag more within h s =
+    let es = h.entries in
+    let e = s.entry in
+    let size : length (take n flags) ≡ length es = omega (arith, length-take n flags, h.count) in
+    let bytes : entries_bytes es ++ entry_bytes e ≡ entries_bytes (es ++ e ∷ []) =
+    ap (λ l. entries_bytes es ++ l) (sym (append-nil (entry_bytes e))) ∙ sym (entries_bytes-append es (e ∷ [])) in
+    let text : entries_bytes (kept (take n flags) es) ++ entries_bytes (kept (flag ∷ []) (e ∷ [])) ≡ entries_bytes (kept (take (n + 1) flags) (es ++ e ∷ [])) =
+    sym (entries_bytes-append (kept (take n flags) es) (kept (flag ∷ []) (e ∷ [])))
+    ∙ ap entries_bytes (sym (kept-append (take n flags) (flag ∷ []) es (e ∷ []) size))
+    ∙ ap (λ l. entries_bytes (kept l (es ++ e ∷ []))) (sym more) in
+    record {
+      entries = es ++ e ∷ [];
+      fit = All-append es e h.fit s.fits;
+      count = omega (arith, length-append es (e ∷ []), h.count);
+      moves = subst (λ l. Moves a c l (entries_bytes (kept (take (n + 1) flags) (es ++ e ∷ [])))) bytes
+          (subst (Moves a c (entries_bytes es ++ entry_bytes e)) text (Moves-trans a b c (entries_bytes es) (entry_bytes e) _ _ h.moves s.moves));
+    }
+
+-- ---- what is due, once some records are known to stand in front
+
+-- the text that is due begins with that of the records in front
+due-front : (flags : List Bool) (es : List Entry) (rest : List ℕ) → AllByRecursion IsEntry es → length es ≤ length flags
+    → (more : List ℕ) × (rest_text flags (parts_of (entries_bytes es ++ rest)) ≡ entries_bytes (kept (take (length es) flags) es) ++ more)
+due-front flags es rest h room =
+    let along = parts_of-along es rest h in
+    let behind = parts_within along.0 rest in (
+      entries_bytes (kept (drop (length es) flags) behind.entries),
+      ap (rest_text flags) along.2
+          ∙ ap (λ l. entries_bytes (kept flags l)) (entries-with_all es behind)
+          ∙ text-at flags es behind.entries room,
+    )
+
+-- a front of what is due was given, wherever the reading stopped
+pub front-copied : (flags : List Bool) (a b c : Told) (n : ℕ) (taken : List ℕ) → n ≤ length flags → Copied flags a b n → Takes b c taken → GivesRestFront flags a c
+front-copied flags a b c n taken room h t =
+    let es = h.entries in
+    let whole = Moves-trans a b c (entries_bytes es) taken _ [] h.moves t.moves in
+    let count : length es ≤ length flags = omega (arith, h.count) in
+    IfSome-front _ _ (entries_bytes es ++ taken) _ whole.left (λ rest.
+    let due = due-front flags es (taken ++ rest) h.fit count in
+    let split : (entries_bytes es ++ taken) ++ rest ≡ entries_bytes es ++ (taken ++ rest) = append_assoc (entries_bytes es) taken rest in
+    record {
+      put = entries_bytes (kept (take n flags) es);
+      rest = due.0;
+      parts = ap (λ l. rest_text flags (parts_of l)) split ∙ due.1 ∙ ap (λ m. entries_bytes (kept (take m flags) es) ++ due.0) h.count;
+      given = subst (Appends _ _) (append-nil (entries_bytes (kept (take n flags) es))) whole.given;
+    })
+
+-- the same where a write stopped within a record
+pub front-part : (flags : List Bool) (a b c : Told) (n : ℕ) (flag : Bool) → take (n + 1) flags ≡ take n flags ++ flag ∷ [] → n < length flags
+    → Copied flags a b n → CopiesPart b c flag → GivesRestFront flags a c
+front-part flags a b c n flag more within h s =
+    let es = h.entries in
+    let e = s.entry in
+    let all = es ++ e ∷ [] in
+    let size : length (take n flags) ≡ length es = omega (arith, length-take n flags, h.count) in
+    let count : length all ≡ n + 1 = omega (arith, length-append es (e ∷ []), h.count) in
+    let bytes : entries_bytes es ++ entry_bytes e ≡ entries_bytes all =
+    ap (λ l. entries_bytes es ++ l) (sym (append-nil (entry_bytes e))) ∙ sym (entries_bytes-append es (e ∷ [])) in
+    let kept_one : entries_bytes (kept (flag ∷ []) (e ∷ [])) ≡ entry_bytes e = ap (λ f. entries_bytes (kept (f ∷ []) (e ∷ []))) s.kept_one ∙ append-nil (entry_bytes e) in
+    let before = entries_bytes (kept (take n flags) es) in
+    let text : entries_bytes (kept (take (n + 1) flags) all) ≡ before ++ entry_bytes e =
+    ap (λ l. entries_bytes (kept l all)) more
+    ∙ ap entries_bytes (kept-append (take n flags) (flag ∷ []) es (e ∷ []) size)
+    ∙ entries_bytes-append (kept (take n flags) es) (kept (flag ∷ []) (e ∷ []))
+    ∙ ap (λ l. before ++ l) kept_one in
+    let one = Moves-trans b s.mid c (entry_bytes e) [] [] s.puts.put s.takes.moves s.puts.puts.moves in
+    let whole = Moves-trans a b c (entries_bytes es) (entry_bytes e ++ []) before s.puts.put h.moves one in
+    let taken : entries_bytes es ++ (entry_bytes e ++ []) ≡ entries_bytes all = ap (λ l. entries_bytes es ++ l) (append-nil (entry_bytes e)) ∙ bytes in
+    IfSome-front _ _ (entries_bytes all) _ (subst (Consumes _ _) taken whole.left) (λ rest.
+    let due = due-front flags all rest (All-append es e h.fit s.fits) (omega (arith, count)) in
+    record {
+      put = before ++ s.puts.put;
+      rest = s.puts.rest ++ due.0;
+      parts = due.1 ∙ ap (λ m. entries_bytes (kept (take m flags) all) ++ due.0) count
+          ∙ ap (λ l. l ++ due.0) (text ∙ ap (λ l. before ++ l) s.puts.parts ∙ sym (append_assoc before s.puts.put s.puts.rest))
+          ∙ append_assoc (before ++ s.puts.put) s.puts.rest due.0;
+      given = whole.given;
+    })
+
+-- ---- how thinning ends
+
+rest_end-of : (flags : List Bool) (q : Parts) (es : List Entry) (tail : List ℕ) (front : Front) → q.entries ≡ es → q.tail ≡ tail → length es ≤ length flags
+    → front_of tail ≡ front → rest_end flags q ≡ end_at flags (length es) front
+unfolding rest_end
+rest_end-of flags q es tail front e t room f =
+    ap (λ l. cond (nat_lt (length flags) (length l)) (Err More) (end_at flags (length l) (front_of q.tail))) e
+    ∙ ap (λ l. cond (nat_lt (length flags) (length es)) (Err More) (end_at flags (length es) (front_of l))) t
+    ∙ ap (λ b. cond b (Err More) (end_at flags (length es) (front_of tail))) (le-ltb (length flags) (length es) room)
+    ∙ ap (end_at flags (length es)) f
+
+-- what is due where whole records are followed by this tail
+record Stops (flags : List Bool) (es : List Entry) (bytes : List ℕ) (result : Result Dropped DropFault) : Type 0 where
+  end : result ≡ rest_end flags (parts_of bytes)
+  text : rest_text flags (parts_of bytes) ≡ entries_bytes (kept (take (length es) flags) es)
+
+stops-at : (flags : List Bool) (es : List Entry) (tail : List ℕ) (front : Front) (q : Parts) → parts_of (entries_bytes es ++ tail) ≡ with_all es q
+    → q ≡ record { entries = []; tail = tail } → length es ≤ length flags → front_of tail ≡ front → Stops flags es (entries_bytes es ++ tail) (end_at flags (length es) front)
+stops-at flags es tail front q p e room f =
+    let all = with_all es q in
+    let entries : all.entries ≡ es = entries-with_all es q ∙ ap (λ (x : Parts). es ++ x.entries) e ∙ append-nil es in
+    let last : all.tail ≡ tail = tail-with_all es q ∙ ap (λ (x : Parts). x.tail) e in
+    record {
+      end = sym (ap (rest_end flags) p ∙ rest_end-of flags all es tail front entries last room f);
+      text = ap (rest_text flags) p ∙ ap (λ l. entries_bytes (kept flags l)) entries ∙ text-all flags es room;
+    }
+
+stops-end : (flags : List Bool) (es : List Entry) (tail : List ℕ) → AllByRecursion IsEntry es → length es ≤ length flags → front_of tail ≡ ends
+    → Stops flags es (entries_bytes es ++ tail) (end_at flags (length es) ends)
+stops-end flags es tail h room f =
+    let along = parts_of-along es tail h in
+    stops-at flags es tail ends (parts_within along.0 tail) along.2 (parts_within-none along.0 tail f) room f
+
+stops-broken : (flags : List Bool) (es : List Entry) (tail : List ℕ) (break : Break) → AllByRecursion IsEntry es → length es ≤ length flags → front_of tail ≡ breaks break
+    → Stops flags es (entries_bytes es ++ tail) (end_at flags (length es) (breaks break))
+stops-broken flags es tail break h room f =
+    let along = parts_of-along es tail h in
+    stops-at flags es tail (breaks break) (parts_within along.0 tail) along.2 (parts_within-broken along.0 tail break f) room f
+
+more-than : (flags : List Bool) (q : Parts) → length flags < length q.entries → rest_end flags q ≡ Err More
+unfolding rest_end
+more-than flags q h = ap (λ b. cond b (Err More) (end_at flags (length q.entries) (front_of q.tail))) (lt-ltb (length flags) (length q.entries) h)
+
+none_after : (flags : List Bool) (n : ℕ) (fs : List Entry) → n ≡ length flags → kept (drop n flags) fs ≡ []
+none_after flags n fs e = ap (λ l. kept l fs) (ap (λ m. drop m flags) e ∙ drop_all (length flags) flags (omega arith))
+
+stops-more : (flags : List Bool) (es : List Entry) (e : Entry) (rest : List ℕ) → AllByRecursion IsEntry es → IsEntry e → length es ≡ length flags
+    → Stops flags es (entries_bytes es ++ (entry_bytes e ++ rest)) (Err More)
+stops-more flags es e rest h g all =
+    let along = parts_of-along es (entry_bytes e ++ rest) h in
+    let found = parts_within-found along.0 e rest g along.1 in
+    let q = with_all es (with_first e found.0) in
+    let p : parts_of (entries_bytes es ++ (entry_bytes e ++ rest)) ≡ q = along.2 ∙ ap (with_all es) found.1 in
+    let entries : q.entries ≡ es ++ (e ∷ found.0.entries) = entries-with_all es (with_first e found.0) in
+    let longer : length flags < length q.entries = omega (arith, ap length entries, length-append es (e ∷ found.0.entries), all) in
+    record {
+      end = sym (ap (rest_end flags) p ∙ more-than flags q longer);
+      text = ap (rest_text flags) p ∙ ap (λ l. entries_bytes (kept flags l)) entries ∙ text-at flags es (e ∷ found.0.entries) (omega arith)
+          ∙ ap (λ l. entries_bytes (kept (take (length es) flags) es) ++ entries_bytes l) (none_after flags (length es) (e ∷ found.0.entries) all)
+          ∙ append-nil (entries_bytes (kept (take (length es) flags) es));
+    }
+
+-- the answer is what is due, and so is what was given
+gives : (flags : List Bool) (a c : Told) (es : List Entry) (n : ℕ) (bytes : List ℕ) (result : Result Dropped DropFault) → length es ≡ n
+    → Appends a.given c.given (entries_bytes (kept (take n flags) es) ++ []) → Stops flags es bytes result
+    → (result ≡ rest_end flags (parts_of bytes)) × Appends a.given c.given (rest_text flags (parts_of bytes))
+gives flags a c es n bytes result count g s =
+    (s.end, subst (Appends _ _) (append-nil (entries_bytes (kept (take n flags) es)) ∙ ap (λ m. entries_bytes (kept (take m flags) es)) (sym count) ∙ sym s.text) g)
+
+-- at the end of the input
+pub decided-end : (flags : List Bool) (a b c : Told) (n : ℕ) → n ≤ length flags → Copied flags a b n → Takes b c [] → IsAtEnd c.left
+    → IsRestDecided flags a c (end_at flags n ends)
+decided-end flags a b c n room h t end =
+    let es = h.entries in
+    let whole = Moves-trans a b c (entries_bytes es) [] _ [] h.moves t.moves in
+    Consumes-whole _ _ (entries_bytes es ++ []) _ whole.left end
+    (subst (λ m. (end_at flags m ends ≡ rest_end flags (parts_of (entries_bytes es ++ []))) × Appends a.given c.given (rest_text flags (parts_of (entries_bytes es ++ [])))) h.count
+    (gives flags a c es n (entries_bytes es ++ []) _ h.count whole.given (stops-end flags es [] h.fit (omega (arith, h.count)) (front_of-end [] refl))))
+
+-- at a tail that ends the input and begins with no record
+pub decided-tail : (flags : List Bool) (a b c : Told) (n : ℕ) (tail : List ℕ) (break : Break) → n ≤ length flags → Copied flags a b n → Takes b c tail → IsAtEnd c.left
+    → front_of tail ≡ breaks break → IsRestDecided flags a c (Err (Dump (break_fault n break)))
+decided-tail flags a b c n tail break room h t end f =
+    let es = h.entries in
+    let whole = Moves-trans a b c (entries_bytes es) tail _ [] h.moves t.moves in
+    Consumes-whole _ _ (entries_bytes es ++ tail) _ whole.left end
+    (subst (λ m. (let r : Result Dropped DropFault = Err (Dump (break_fault m break)) in r ≡ rest_end flags (parts_of (entries_bytes es ++ tail))) × Appends a.given c.given (rest_text flags (parts_of (entries_bytes es ++ tail)))) h.count
+    (gives flags a c es n (entries_bytes es ++ tail) _ h.count whole.given (stops-broken flags es tail break h.fit (omega (arith, h.count)) f)))
+
+-- at bytes that begin with no record, whatever follows them
+pub decided-front : (flags : List Bool) (a b c : Told) (n : ℕ) (taken : List ℕ) (break : Break) → n ≤ length flags → Copied flags a b n → Takes b c taken
+    → ((rest : List ℕ) → front_of (taken ++ rest) ≡ breaks break) → IsRestDecided flags a c (Err (Dump (break_fault n break)))
+decided-front flags a b c n taken break room h t f =
+    let es = h.entries in
+    let whole = Moves-trans a b c (entries_bytes es) taken _ [] h.moves t.moves in
+    let P : List ℕ → Type 0 = λ bytes. (let r : Result Dropped DropFault = Err (Dump (break_fault n break)) in r ≡ rest_end flags (parts_of bytes)) × Appends a.given c.given (rest_text flags (parts_of bytes)) in
+    IfSome-front _ _ (entries_bytes es ++ taken) P whole.left (λ rest.
+    subst P (sym (append_assoc (entries_bytes es) taken rest))
+    (subst (λ m. (let r : Result Dropped DropFault = Err (Dump (break_fault m break)) in r ≡ rest_end flags (parts_of (entries_bytes es ++ (taken ++ rest)))) × Appends a.given c.given (rest_text flags (parts_of (entries_bytes es ++ (taken ++ rest))))) h.count
+    (gives flags a c es n (entries_bytes es ++ (taken ++ rest)) _ h.count whole.given (stops-broken flags es (taken ++ rest) break h.fit (omega (arith, h.count)) (f rest)))))
+
+-- at a record behind that of the last flag
+pub decided-more : (flags : List Bool) (a b c : Told) (n : ℕ) (e : Entry) → n ≡ length flags → Copied flags a b n → IsEntry e → Takes b c (entry_bytes e)
+    → IsRestDecided flags a c (Err More)
+decided-more flags a b c n e all h g t =
+    let es = h.entries in
+    let whole = Moves-trans a b c (entries_bytes es) (entry_bytes e) _ [] h.moves t.moves in
+    let P : List ℕ → Type 0 = λ bytes. (let r : Result Dropped DropFault = Err More in r ≡ rest_end flags (parts_of bytes)) × Appends a.given c.given (rest_text flags (parts_of bytes)) in
+    IfSome-front _ _ (entries_bytes es ++ entry_bytes e) P whole.left (λ rest.
+    subst P (sym (append_assoc (entries_bytes es) (entry_bytes e) rest))
+    (gives flags a c es n (entries_bytes es ++ (entry_bytes e ++ rest)) _ h.count whole.given (stops-more flags es e rest h.fit g (h.count ∙ all))))

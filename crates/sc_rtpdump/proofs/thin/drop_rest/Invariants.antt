@@ -1,0 +1,10 @@
+use Rattle.std.proofs.Common.{◌≡◌, take}
+use Rattle.sc_channel.specs.Flags.{set_count}
+use Rattle.sc_rtpdump.specs.Thinning.{Copied}
+use Rattle.sc_rtpdump.proofs.thin.drop_rest.Given as goal
+
+-- the records of the flags so far were copied, and their losses counted
+abbrev pub invariant-loop-i : goal.invariant-loop-i
+invariant-loop-i g l =
+    let told = g.P.Port.told in
+    record { copied : Copied l.flags (told l.fn.port) (told l.port) l.i; count : l.lost ≡ set_count (take l.i l.flags) }
