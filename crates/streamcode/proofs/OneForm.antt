@@ -1,0 +1,146 @@
+-- Words ask for a command exactly where they are its words.
+use Rattle.std.proofs.Common.{◌≡◌, ℕ, ◌≤◌, ◌&&◌, List, [], ◌∷◌, Bool, true, false, Option, Some, None, length, map, codes, cond, nat_le, arith, refl, ap, inl, inr, sym, ◌∙◌, subst}
+use Rattle.std.proofs.lemmas.Bool.Decides.{nat_tests, eqb_tells}
+use Rattle.std.proofs.lemmas.List.{length-map}
+use Rattle.std.proofs.lemmas.Option.{cond_some}
+use Rattle.std.proofs.lemmas.Slice.Eq.{bytes_eq-Decides}
+use Rattle.std.specs.Fmt.{decimal}
+use Rattle.std.specs.List.{list_all}
+use Rattle.std.specs.Str.{bytes_eq}
+use Rattle.sc_channel.specs.Channel.{ChannelNumbers, IsChannel}
+use Rattle.streamcode.specs.Words.{Command, lose_word, number_of, is_channel, channel_at, channel_of, is_flag, is_lost, is_loss_word, flags_of, lose_at, lose_of, command_of}
+use Rattle.streamcode.specs.Forms.{character_of, words_of, IsWithinLimits}
+use Rattle.streamcode.proofs.Forms.{flags_of-word, flags_of-none}
+use Rattle.streamcode.proofs.Numbers.{number_of-to_decimal, number_of-decimal}
+
+-- the test on numbers is the definition of a channel
+pub is_channel-to : (c : ChannelNumbers) → is_channel c ≡ true → IsChannel c
+unfolding is_channel
+is_channel-to c is = record {
+  ordered = record { some_loss = grind (arith, nat_tests); count_in_span = grind (arith, nat_tests); span_in_deadline = grind (arith, nat_tests); deadline_in_window = grind (arith, nat_tests) };
+  window_limit = grind (arith, nat_tests);
+  deadline_limit = grind (arith, nat_tests);
+}
+
+pub is_channel-from : (c : ChannelNumbers) → IsChannel c → is_channel c ≡ true
+unfolding is_channel
+is_channel-from c is = grind (arith, nat_tests, is.ordered.some_loss, is.ordered.count_in_span, is.ordered.span_in_deadline, is.ordered.deadline_in_window, is.window_limit, is.deadline_limit)
+
+-- flags and their characters
+is_lost-characters : (flags : List Bool) → map is_lost (map character_of flags) ≡ flags
+is_lost-characters [] = refl
+is_lost-characters (true ∷ flags) = ap (λ fs. true ∷ fs) (is_lost-characters flags)
+is_lost-characters (false ∷ flags) = ap (λ fs. false ∷ fs) (is_lost-characters flags)
+
+is_flag-characters : (flags : List Bool) → list_all is_flag (map character_of flags) ≡ true
+is_flag-characters [] = refl
+is_flag-characters (true ∷ flags) = is_flag-characters flags
+is_flag-characters (false ∷ flags) = is_flag-characters flags
+
+character : (c : ℕ) → is_flag c ≡ true → c ≡ character_of (is_lost c)
+character c is = elim (eqb_tells c 49) [
+  | inl one ↦ one.1 ∙ sym (ap character_of one.0)
+  | inr other ↦ (let zero : c ≡ 48 = grind (arith, nat_tests) in zero ∙ sym (ap character_of other.0))
+]
+
+both : (a b : Bool) → (a && b) ≡ true → (a ≡ true) × (b ≡ true)
+both true true is = (refl, refl)
+both true false is = absurd (cc)
+both false b is = absurd (cc)
+
+characters : (word : List ℕ) → list_all is_flag word ≡ true → word ≡ map character_of (map is_lost word)
+characters [] all = refl
+characters (c ∷ word) all =
+    let parts = both (is_flag c) (list_all is_flag word) all in
+    let first = character c parts.0 in
+    let rest = characters word parts.1 in
+    cc
+
+flags_of-characters : (flags : List Bool) → length flags ≤ 4000000 → flags_of (map character_of flags) ≡ Some flags
+unfolding is_loss_word
+flags_of-characters flags short =
+    let fits : nat_le (length (map character_of flags)) 4000000 ≡ true = grind (arith, nat_tests, length-map flags character_of) in
+    flags_of-word (map character_of flags) (rw (fits, is_flag-characters flags) refl) ∙ ap Some (is_lost-characters flags)
+
+flags_of_parts : (word : List ℕ) (flags : List Bool) (test : Bool) → is_loss_word word ≡ test → flags_of word ≡ Some flags → (word ≡ map character_of flags) × (length flags ≤ 4000000)
+unfolding is_loss_word
+flags_of_parts word flags false none is = (let no = flags_of-none word none in absurd (cc))
+flags_of_parts word flags true some is =
+    let value = flags_of-word word some in
+    let same : map is_lost word ≡ flags = cc in
+    let parts = both (nat_le (length word) 4000000) (list_all is_flag word) some in
+    let short : length word ≤ 4000000 = grind (arith, nat_tests, parts.0) in
+    (characters word parts.1 ∙ ap (map character_of) same, omega (arith, ap length same, length-map word is_lost))
+
+flags_of-to : (word : List ℕ) (flags : List Bool) → flags_of word ≡ Some flags → (word ≡ map character_of flags) × (length flags ≤ 4000000)
+flags_of-to word flags is = flags_of_parts word flags (is_loss_word word) refl is
+
+-- the parts of a channel's words, and of a command's
+record AreNumbers (w b n t : Option ℕ) (c : ChannelNumbers) : Type 0 where
+  w_is : w ≡ Some c.w
+  b_is : b ≡ Some c.b
+  n_is : n ≡ Some c.n
+  t_is : t ≡ Some c.t
+  channel : is_channel c ≡ true
+
+channel_at-to : (w b n t : Option ℕ) (c : ChannelNumbers) → channel_at w b n t ≡ Some c → AreNumbers w b n t c
+channel_at-to (Some w) (Some b) (Some n) (Some t) c is =
+    let numbers : ChannelNumbers = record { w = w; b = b; n = n; t = t } in
+    let parts = cond_some (is_channel numbers) numbers c is in
+    record {
+      w_is = ap (λ (d : ChannelNumbers). Some d.w) parts.1;
+      b_is = ap (λ (d : ChannelNumbers). Some d.b) parts.1;
+      n_is = ap (λ (d : ChannelNumbers). Some d.n) parts.1;
+      t_is = ap (λ (d : ChannelNumbers). Some d.t) parts.1;
+      channel = subst (λ (d : ChannelNumbers). is_channel d ≡ true) parts.1 parts.0;
+    }
+channel_at-to (Some w) (Some b) (Some n) None c is = absurd (cc)
+channel_at-to (Some w) (Some b) None t c is = absurd (cc)
+channel_at-to (Some w) None n t c is = absurd (cc)
+channel_at-to None b n t c is = absurd (cc)
+
+lose_at-to : (o : Option ChannelNumbers) (f : Option (List Bool)) (c : ChannelNumbers) (flags : List Bool) → lose_at o f ≡ Some (lose_word c flags) → (o ≡ Some c) × (f ≡ Some flags)
+lose_at-to (Some d) (Some gs) c flags is = (cc, cc)
+lose_at-to (Some d) None c flags is = absurd (cc)
+lose_at-to None f c flags is = absurd (cc)
+
+lose_of-to : (words : List (List ℕ)) (c : ChannelNumbers) (flags : List Bool) → lose_of words ≡ Some (lose_word c flags) → (words ≡ decimal c.w ∷ decimal c.b ∷ decimal c.n ∷ decimal c.t ∷ map character_of flags ∷ []) × IsWithinLimits (lose_word c flags)
+lose_of-to [] c flags is = absurd (cc)
+lose_of-to (w ∷ []) c flags is = absurd (cc)
+lose_of-to (w ∷ b ∷ []) c flags is = absurd (cc)
+lose_of-to (w ∷ b ∷ n ∷ []) c flags is = absurd (cc)
+lose_of-to (w ∷ b ∷ n ∷ t ∷ []) c flags is = absurd (cc)
+lose_of-to (w ∷ b ∷ n ∷ t ∷ loss ∷ []) c flags is =
+    let parts = lose_at-to (channel_of w b n t) (flags_of loss) c flags is in
+    let numbers = channel_at-to (number_of w) (number_of b) (number_of n) (number_of t) c parts.0 in
+    let w_text = number_of-to_decimal w c.w numbers.w_is in
+    let b_text = number_of-to_decimal b c.b numbers.b_is in
+    let n_text = number_of-to_decimal n c.n numbers.n_is in
+    let t_text = number_of-to_decimal t c.t numbers.t_is in
+    let loss_text = flags_of-to loss flags parts.1 in
+    (cc, (is_channel-to c numbers.channel, loss_text.1))
+lose_of-to (w ∷ b ∷ n ∷ t ∷ loss ∷ more ∷ rest) c flags is = absurd (cc)
+
+named : (name : List ℕ) (words : List (List ℕ)) (command : Command) (test : Bool) → bytes_eq name (codes "lose") ≡ test → cond test (lose_of words) None ≡ Some command → (name ∷ words ≡ words_of command) × IsWithinLimits command
+named name words command false other is = absurd (cc)
+named name words (lose_word c flags) true lose is =
+    let parts = lose_of-to words c flags is in
+    let name_text = (bytes_eq-Decides name (codes "lose")).0 lose in
+    (cc, parts.1)
+
+pub command_of-to : (words : List (List ℕ)) (command : Command) → command_of words ≡ Some command → (words ≡ words_of command) × IsWithinLimits command
+command_of-to [] command is = absurd (cc)
+command_of-to (name ∷ words) command is = named name words command (bytes_eq name (codes "lose")) refl is
+
+channel_of-decimal : (c : ChannelNumbers) → IsChannel c → channel_of (decimal c.w) (decimal c.b) (decimal c.n) (decimal c.t) ≡ Some c
+channel_of-decimal c is =
+    let w = number_of-decimal c.w (omega arith) in
+    let b = number_of-decimal c.b (omega arith) in
+    let n = number_of-decimal c.n (omega arith) in
+    let t = number_of-decimal c.t (omega arith) in
+    let channel = is_channel-from c is in
+    rw (w, b, n, t, channel) refl
+
+pub command_of-words_of : (command : Command) → IsWithinLimits command → command_of (words_of command) ≡ Some command
+command_of-words_of (lose_word c flags) within =
+    rw (channel_of-decimal c within.0, flags_of-characters flags within.1) refl

@@ -1,0 +1,13 @@
+-- What a command that was read means.
+use Rattle.std.specs.Prelude.{◌≡◌, true, map}
+use Rattle.streamcode.specs.declared.words.Command.{Command}
+use Rattle.streamcode.specs.declared.words.Command.TheVariants.{LoseWord}
+use Rattle.streamcode.specs.Words.{Command as Meaning, lose_word, is_lost, is_loss_word}
+
+-- the command that is asked for
+abbrev pub meaning : Command → Meaning
+meaning (LoseWord channel flags) = lose_word channel (map is_lost flags.now)
+
+-- the words that a command keeps are of their forms
+abbrev pub HasItsForms : Command → Type 0
+HasItsForms (LoseWord channel flags) = is_loss_word flags.now ≡ true

@@ -1,0 +1,19 @@
+-- The one form of words of each command, as it is typed.
+use Rattle.std.specs.Prelude.{ℕ, ◌≤◌, Bool, true, false, List, [], ◌∷◌, codes, length, map}
+use Rattle.std.specs.Fmt.{decimal}
+use Rattle.sc_channel.specs.Channel.{IsChannel}
+use Rattle.streamcode.specs.Words.{Command, lose_word}
+
+-- the character of a flag: 1 (49) where the slot is lost, and else 0 (48)
+abbrev pub character_of : Bool → ℕ
+character_of true = 49
+character_of false = 48
+
+-- the words that ask for a command, as bytes; numbers are written as they are printed
+abbrev pub words_of : Command → List (List ℕ)
+words_of (lose_word channel flags) =
+    codes "lose" ∷ decimal channel.w ∷ decimal channel.b ∷ decimal channel.n ∷ decimal channel.t ∷ map character_of flags ∷ []
+
+-- the limits of what a command may ask for
+abbrev pub IsWithinLimits : Command → Type 0
+IsWithinLimits (lose_word channel flags) = IsChannel channel × (length flags ≤ 4000000)

@@ -1,0 +1,73 @@
+-- What the words of a command line mean. The forms of the words are of this project.
+use Rattle.std.specs.Prelude.{ℕ, ◌^◌, ◌==◌, ◌&&◌, ◌||◌, Bool, List, [], ◌∷◌, Option, Some, None, if◌then◌else◌, codes, length, map, nat_lt, nat_le, slice_index, string_bytes, String}
+use Rattle.std.specs.List.{list_all}
+use Rattle.std.specs.Str.{all_ascii_digits, bytes_eq}
+use Rattle.std.specs.Str.Parse.{digits_value}
+use Rattle.sc_channel.specs.Channel.{ChannelNumbers}
+
+-- a word has one character, or begins with one above the zero (48): with no sign and no leading zero
+abbrev pub begins_plain : List ℕ → Bool
+begins_plain word = length word == 1 || nat_lt 48 (slice_index word 0)
+
+-- decimal digits, at least one, without a leading zero
+abbrev pub is_numeral : List ℕ → Bool
+is_numeral word = all_ascii_digits word && begins_plain word
+
+-- the number below 2 ^ 32 that a word writes in decimal, without sign and without a leading zero
+unfoldable pub number_of : List ℕ → Option ℕ
+number_of word =
+    if is_numeral word && nat_lt (digits_value 10 word) (2 ^ 32) then Some (digits_value 10 word) else None
+
+-- 1 ≤ n ≤ b ≤ t < w, w ≤ 255 and t ≤ 40
+unfoldable pub is_channel : ChannelNumbers → Bool
+is_channel c =
+    nat_le 1 c.n && nat_le c.n c.b && nat_le c.b c.t && nat_lt c.t c.w && nat_le c.w 255 && nat_le c.t 40
+
+-- the channel that four numbers are, where they are one
+abbrev pub channel_at : Option ℕ → Option ℕ → Option ℕ → Option ℕ → Option ChannelNumbers
+channel_at (Some w) (Some b) (Some n) (Some t) =
+    let c : ChannelNumbers = record { w = w; b = b; n = n; t = t } in
+    if is_channel c then Some c else None
+channel_at _ _ _ _ = None
+
+-- the channel that four words write
+abbrev pub channel_of : List ℕ → List ℕ → List ℕ → List ℕ → Option ChannelNumbers
+channel_of w b n t = channel_at (number_of w) (number_of b) (number_of n) (number_of t)
+
+-- the character 0 (48) is a slot that arrives, and 1 (49) one that is lost
+abbrev pub is_flag : ℕ → Bool
+is_flag character = character == 48 || character == 49
+
+abbrev pub is_lost : ℕ → Bool
+is_lost character = character == 49
+
+-- at most 4,000,000 characters, each 0 or 1
+unfoldable pub is_loss_word : List ℕ → Bool
+is_loss_word word = nat_le (length word) 4000000 && list_all is_flag word
+
+-- the flags that a loss word writes, one a character
+unfoldable pub flags_of : List ℕ → Option (List Bool)
+flags_of word = if is_loss_word word then Some (map is_lost word) else None
+
+-- what a command line asks for, one constructor a command
+pub data Command : Type 0 where
+  lose_word : ChannelNumbers → List Bool → Command
+
+-- the command that a channel and flags ask for, where both are there
+abbrev pub lose_at : Option ChannelNumbers → Option (List Bool) → Option Command
+lose_at (Some channel) (Some flags) = Some (lose_word channel flags)
+lose_at _ _ = None
+
+-- W B N T LOSSWORD
+abbrev pub lose_of : List (List ℕ) → Option Command
+lose_of (w ∷ b ∷ n ∷ t ∷ loss ∷ []) = lose_at (channel_of w b n t) (flags_of loss)
+lose_of _ = None
+
+-- the command whose form the words have: its name, then its words
+abbrev pub command_of : List (List ℕ) → Option Command
+command_of [] = None
+command_of (name ∷ words) = if bytes_eq name (codes "lose") then lose_of words else None
+
+-- the bytes of each word
+abbrev pub texts : {A : Type 0} → List (String A) → List (List ℕ)
+texts words = map string_bytes words

@@ -1,0 +1,8 @@
+//! The program: what the words of its command line ask for, and the run that does it.
+#![tactic(auto)]
+
+mod word_laws;
+mod words;
+
+pub use word_laws::{one_channel, one_form, one_numeral};
+pub use words::{Command, is_loss_word, read_loss_word, read_words};

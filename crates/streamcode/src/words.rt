@@ -1,0 +1,203 @@
+//! The words of the command line.
+
+ghost use Rattle.std.specs.Prelude.{◌≡◌, true, Some, IfOk, IfSome, map};
+ghost use Rattle.std.specs.Option.{option_map};
+ghost use Rattle.streamcode.specs.Words.{number_of, begins_plain, channel_of, is_lost, flags_of, is_loss_word, lose_of, command_of, texts};
+ghost use Rattle.streamcode.specs.Command.{meaning, HasItsForms};
+
+use sc_channel::{Channel, Flags};
+use sc_outside::NoMemory;
+use std::alloc::Global;
+
+/// The most flags of a loss, one a slot.
+const MAX_FLAGS: usize = 4_000_000;
+
+/// What a command line asks for. The forms of the words are of this project.
+#[derive(Copy, Clone, Debug, PartialEq, Eq)]
+pub enum Command<'a> {
+    /// `lose W B N T LOSSWORD`: copy a capture without its lost records.
+    LoseWord {
+        /// The channel that the loss has to be admissible for.
+        channel: Channel,
+        /// The loss word: 0 to 4,000,000 characters, one a record, `1` where it is lost, else `0`.
+        flags: &'a str,
+    },
+}
+
+/// The command whose form the words have, the command's name first, and `None` exactly where they
+/// have no form. It takes no memory.
+///
+/// The one form is `lose W B N T LOSSWORD`. The four numbers are decimal, without sign and without a
+/// leading zero, and a channel; the loss word is 0 to 4,000,000 characters `0` and `1`. The forms are
+/// of this project.
+pub fn read_words(words: &Vec<String>) -> Option<Command<'_>>
+    ensures command { command_of (texts words.now.items) ≡ option_map meaning result }
+    ensures forms { IfSome result HasItsForms }
+{
+    match words.as_slice() {
+        [name, rest @ ..] if name.as_str() == "lose" => read_lose(rest),
+        _ => None,
+    }
+}
+
+/// The words after `lose`.
+fn read_lose(words: &[String]) -> Option<Command<'_>>
+    ensures command { lose_of (texts words.now) ≡ option_map meaning result }
+    ensures forms { IfSome result HasItsForms }
+{
+    match words {
+        [w, b, n, t, loss] => {
+            let flags = loss.as_str();
+            let channel = read_channel(w.as_str(), b.as_str(), n.as_str(), t.as_str())?;
+            if is_loss_word(flags) {
+                Some(Command::LoseWord { channel, flags })
+            } else {
+                None
+            }
+        }
+        _ => None,
+    }
+}
+
+/// The channel that four words write.
+#[tactic(auto, unfolding(crate::specs::Words::is_channel))]
+fn read_channel(w: &str, b: &str, n: &str, t: &str) -> Option<Channel>
+    ensures { result ≡ channel_of w.now b.now n.now t.now }
+{
+    let w = number_word(w)?;
+    let b = number_word(b)?;
+    let n = number_word(n)?;
+    let t = number_word(t)?;
+    Channel::new(w, b, n, t).ok()
+}
+
+/// The number that a word writes in decimal, without sign and without a leading zero.
+#[tactic(auto, using(crate::proofs::Numbers::number_from_parse, crate::proofs::Numbers::number_none))]
+fn number_word(word: &str) -> Option<u32>
+    ensures { result ≡ number_of word.now }
+{
+    // `parse` takes a plus sign and leading zeros too.
+    if begins_plain(word) {
+        word.parse::<u32>().ok()
+    } else {
+        None
+    }
+}
+
+/// Whether a word has one character, or begins with one above `0`: with no sign and no leading zero.
+fn begins_plain(word: &str) -> bool
+    ensures { result ≡ begins_plain word.now }
+{
+    match word.as_bytes() {
+        [_] => true,
+        [first, ..] => b'0' < *first,
+        [] => false,
+    }
+}
+
+/// Whether a word is a loss word: at most 4,000,000 characters, each `0` or `1`. One pass.
+#[tactic(auto, unfolding(crate::specs::Words::is_loss_word))]
+pub fn is_loss_word(word: &str) -> bool
+    ensures { result ≡ is_loss_word word.now }
+{
+    word.len() <= MAX_FLAGS && word.bytes().all(|byte| byte == b'0' || byte == b'1')
+}
+
+/// The flags of a loss word, one a character, set where it is `1`. `Err` only for want of memory,
+/// all of which is taken before the first flag.
+pub fn read_loss_word(alloc: Global, word: &str) -> Result<Flags, NoMemory>
+    requires { is_loss_word word.now ≡ true }
+    ensures flags { IfOk result (λ flags. flags_of word.now ≡ Some flags) }
+    ensures each { IfOk result (λ flags. flags ≡ map is_lost word.now) }
+{
+    let mut flags = Flags::with_capacity(alloc, word.len())?;
+    for byte in word.as_bytes() {
+        flags.push(*byte == b'1')?;
+    }
+    Ok(flags)
+}
+
+#[cfg(test)]
+mod tests {
+    use super::{Command, is_loss_word, number_word, read_loss_word, read_words};
+    use std::alloc::{AllocError, Global};
+    use std::test::Fail;
+
+    fn words_of(alloc: Global, line: &str) -> Result<Vec<String>, AllocError> {
+        let mut words = Vec::new(alloc);
+        for word in line.split(' ') {
+            words.push(String::from_str(alloc, word)?)?;
+        }
+        Ok(words)
+    }
+
+    /// Whether the words of a line are `lose` with these numbers and this loss word, or, where it
+    /// is `None`, no form.
+    fn reads_as(
+        alloc: Global,
+        line: &str,
+        numbers: (u32, u32, u32, u32),
+        want: Option<&str>,
+    ) -> Result<bool, AllocError> {
+        let words = words_of(alloc, line)?;
+        Ok(match read_words(&words) {
+            Some(command) => match command {
+                Command::LoseWord { channel, flags } => {
+                    let read = (channel.w(), channel.b(), channel.n(), channel.t());
+                    read == numbers && want == Some(flags)
+                }
+            },
+            None => want.is_none(),
+        })
+    }
+
+    #[test]
+    fn reads_the_forms_of_words(rt: HostRuntime) -> Result<(), Fail> {
+        for (line, want) in [
+            ("lose 3 2 1 2 010", Some("010")),
+            ("lose 3 2 1 2 ", Some("")),
+            ("lose 3 2 1 2", None),
+            ("lose 3 2 1 2 0 1", None),
+            ("lose 3 2 1 3 0", None),
+            ("lose 256 2 1 2 0", None),
+            ("lose 03 2 1 2 0", None),
+            ("lose +3 2 1 2 0", None),
+            ("lose 4294967299 2 1 2 0", None),
+            ("lose 3 2 1 2 012", None),
+            ("Lose 3 2 1 2 0", None),
+            ("gen 3 2 1 2 0", None),
+            ("", None),
+        ] {
+            let right = reads_as(rt.alloc(), line, (3, 2, 1, 2), want)?;
+            assert!(rt; right, "at {line}");
+        }
+        Ok(())
+    }
+
+    #[test]
+    fn reads_numbers(rt: HostRuntime) {
+        for (word, want) in [
+            ("0", Some(0)),
+            ("10", Some(10)),
+            ("4294967295", Some(4_294_967_295)),
+            ("4294967296", None),
+            ("00", None),
+            ("+1", None),
+            ("-1", None),
+            ("-", None),
+            ("1a", None),
+            ("", None),
+        ] {
+            assert_eq!(rt; number_word(word), want, "at {word}");
+        }
+    }
+
+    #[test]
+    fn reads_a_loss_word(rt: HostRuntime) -> Result<(), Fail> {
+        let word = "010";
+        assert!(rt; is_loss_word(word));
+        let flags = read_loss_word(rt.alloc(), word)?;
+        assert_eq!(rt; flags.as_slice(), [false, true, false].as_slice());
+        Ok(())
+    }
+}
