@@ -1,3 +1,6 @@
 pub mod Forms
 pub mod Numbers
 pub mod OneForm
+pub mod Windows
+pub mod LossWord
+pub mod RunLaws

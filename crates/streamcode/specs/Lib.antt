@@ -1,3 +1,5 @@
 pub mod Words
 pub mod Command
 pub mod Forms
+pub mod Due
+pub mod Run

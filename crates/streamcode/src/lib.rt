@@ -1,8 +1,13 @@
 //! The program: what the words of its command line ask for, and the run that does it.
 #![tactic(auto)]
 
+mod end;
+mod note;
+mod program;
 mod word_laws;
 mod words;
 
+pub use end::End;
+pub use program::run;
 pub use word_laws::{one_channel, one_form, one_numeral};
 pub use words::{Command, is_loss_word, read_loss_word, read_words};
