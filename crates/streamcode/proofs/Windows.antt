@@ -23,7 +23,7 @@ or_right false b h = h
 -- the test finds the fine ones, and those alone
 pub fine-tested : (b n : ℕ) (flags : List Bool) → is_fine b n flags ≡ true → IsFine b n flags
 fine-tested b n flags h = elim (or_cases (nat_le (set_count flags) n) (nat_le (span flags) b) h) as (λ _. IsFine b n flags) [
-    inl p ↦ few (leb-true (set_count flags) n p)
+  | inl p ↦ few (leb-true (set_count flags) n p)
   | inr p ↦ close (leb-true (span flags) b p)
 ]
 
@@ -61,14 +61,14 @@ bad_window-some c (f ∷ fs) i e = found c f fs i (λ j r. bad_window-some c fs 
     found c f fs i rest (inl here) = subst (IsFirstBadWindow c (f ∷ fs)) (sym here.1) (record {
       in_range = omega arith;
       bad = λ fine. let t = tested-fine c.b c.n (take c.w (f ∷ fs)) fine in absurd (cc (t, here.0));
-      earlier_fine = λ k h. absurd (omega arith)
+      earlier_fine = λ k h. absurd (omega arith);
     })
     found c f fs i rest (inr later) =
         let r = rest later.0 later.2 in
         subst (IsFirstBadWindow c (f ∷ fs)) (sym later.3) (record {
           in_range = omega (arith, r.in_range);
           bad = r.bad;
-          earlier_fine = before c f fs later.0 later.1 r
+          earlier_fine = before c f fs later.0 later.1 r;
         })
       where
         before : (c : ChannelNumbers) (f : Bool) (fs : List Bool) (j : ℕ) → is_fine c.b c.n (take c.w (f ∷ fs)) ≡ true → IsFirstBadWindow c fs j

@@ -4,6 +4,8 @@
 mod end;
 mod note;
 mod program;
+#[cfg(test)]
+mod tests;
 mod word_laws;
 mod words;
 

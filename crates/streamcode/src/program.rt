@@ -73,12 +73,7 @@ fn answer<P: Port>(alloc: Global, words: &Vec<String>, port: &mut P) -> End
 /// 1 a loss that isn't admissible, 2 words with no form, 3 an input that is refused, 7 a failed read, 8 a failed write
 /// and 9 want of memory. What is due for the words and the input is one function of both; the status and the bytes given
 /// are exactly those, or the outside failed, and what was given is a front of what is due in any case.
-pub fn run<P: Port, N: Sink>(
-    alloc: Global,
-    words: &Vec<String>,
-    port: &mut P,
-    notes: &mut N,
-) -> u8
+pub fn run<P: Port, N: Sink>(alloc: Global, words: &Vec<String>, port: &mut P, notes: &mut N) -> u8
     // The status and the bytes are those that are due, or a fault was counted, or memory ran out.
     ensures decided { IfSome (P.told port.old).left (λ input.
         IsDue (due (texts words.now.items) input) (P.told port.old) (P.told port.new) result

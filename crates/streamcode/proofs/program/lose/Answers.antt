@@ -11,7 +11,7 @@ pub returns-in-Some-clause-gives : goal.returns-in-Some-clause-gives
 returns-in-Some-clause-gives g c =
     let each = c.in-Ok.ensures.each in
     let found : bad_window c.args.channel (map is_lost c.args.word.now) ≡ c.first_bad_window.result =
-      ap (bad_window c.args.channel) (sym each ∙ sym c.as_slice.ensures) ∙ bad_window-is c.args.channel c.as_slice.result.now c.first_bad_window.result c.first_bad_window.ensures.answer in
+    ap (bad_window c.args.channel) (sym each ∙ sym c.as_slice.ensures) ∙ bad_window-is c.args.channel c.as_slice.result.now c.first_bad_window.result c.first_bad_window.ensures.answer in
     (found ∙ c.in-Some.is, refl)
 
 pub thin-requires : goal.thin-requires
@@ -21,7 +21,7 @@ pub returns-clause-gives : goal.returns-clause-gives
 returns-clause-gives g c =
     let each = c.in-Ok.ensures.each in
     let found : bad_window c.args.channel (map is_lost c.args.word.now) ≡ c.first_bad_window.result =
-      ap (bad_window c.args.channel) (sym each ∙ sym c.as_slice.ensures) ∙ bad_window-is c.args.channel c.as_slice.result.now c.first_bad_window.result c.first_bad_window.ensures.answer in
+    ap (bad_window c.args.channel) (sym each ∙ sym c.as_slice.ensures) ∙ bad_window-is c.args.channel c.as_slice.result.now c.first_bad_window.result c.first_bad_window.ensures.answer in
     lose_thin _ (map is_lost c.args.word.now) _ _ c.thin.result (found ∙ c.in-None.is)
     (subst (λ l. ThinGives l (g.P.Port.told c.args.port.now) (g.P.Port.told c.thin.new.port) c.thin.result) each c.thin.ensures)
 
@@ -29,5 +29,5 @@ pub returns-clause-untouched : goal.returns-clause-untouched
 returns-clause-untouched g c =
     let each = c.in-Ok.ensures.each in
     let found : bad_window c.args.channel (map is_lost c.args.word.now) ≡ c.first_bad_window.result =
-      ap (bad_window c.args.channel) (sym each ∙ sym c.as_slice.ensures) ∙ bad_window-is c.args.channel c.as_slice.result.now c.first_bad_window.result c.first_bad_window.ensures.answer in
+    ap (bad_window c.args.channel) (sym each ∙ sym c.as_slice.ensures) ∙ bad_window-is c.args.channel c.as_slice.result.now c.first_bad_window.result c.first_bad_window.ensures.answer in
     not_refusing _ (found ∙ c.in-None.is)

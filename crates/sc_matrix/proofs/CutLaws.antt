@@ -1,0 +1,134 @@
+-- How the rows of a list that is cut into rows follow from the list.
+use Rattle.std.proofs.Common.{◌≡◌, ℕ, zero, suc, ◌+◌, ◌*◌, ◌<◌, ◌≤◌, List, [], ◌∷◌, ◌++◌, length, get_or, take, drop, set, replicate, All, refl, sym, ◌∙◌, ap, ◌-◌, ◌^◌, ◌≢◌, inl, inr, arith}
+use Rattle.std.proofs.lemmas.List.{drop-drop, length-take-le, length-drop, take-append-le, drop-append-le, drop-take, take-replicate, drop-replicate, ext_get_or, get_or-set_same, get_or-set_other, length-set, take_all, drop-set-lt, drop-set-add, take-set-le, take-take, nil_from_length, get_or-take, get_or-drop}
+use Rattle.std.proofs.lemmas.List.Elements.{All-take, All-drop}
+use Rattle.std.proofs.lemmas.Nat.{row_fits, mul-le}
+use Rattle.std.proofs.lemmas.Slice.{drop-put_mid, take-put_mid_below, between-put_mid}
+use Rattle.std.proofs.lemmas.Bool.{cases_order}
+use Rattle.std.proofs.Math.Seq.{take-set-lt}
+use borrow.Rule.Slice.PartMut.{put_mid}
+use Rattle.sc_matrix.specs.Matrix.{Matrix, row_count, entry}
+use Rattle.sc_matrix.specs.Layout.{cut, laid_out}
+
+-- the row i lies within the list
+pub row_within : (n c i : ℕ) → i < n → i * c + c ≤ n * c
+row_within n c i h = row_fits i c n c h (omega arith)
+
+-- an offset within a block of l entries of so many bytes fits
+pub offset_fits : (p l bytes : ℕ) → p ≤ l → l * bytes < 2 ^ 63 → p * bytes < 2 ^ 64
+offset_fits p l bytes h b = let m = mul-le p bytes l bytes h (omega arith) in omega arith
+
+module _ {A : Type 0} where
+  pub length-cut : (n c : ℕ) (xs : List A) → length (cut n c xs) ≡ n
+  length-cut zero c xs = refl
+  length-cut (suc n) c xs = ap suc (length-cut n c (drop c xs))
+
+  -- row i of the cut
+  pub get_or-cut : (n c : ℕ) (xs : List A) (i : ℕ) (d : List A) → i < n → get_or (cut n c xs) i d ≡ take c (drop (i * c) xs)
+  get_or-cut zero c xs i d h = absurd (omega arith)
+  get_or-cut (suc n) c xs zero d h = let e : 0 * c ≡ 0 = omega arith in rw e refl
+  get_or-cut (suc n) c xs (suc i) d h =
+      let e : suc i * c ≡ c + i * c = omega arith in
+      let s : take c (drop (i * c) (drop c xs)) ≡ take c (drop (suc i * c) xs) = rw e (rw drop-drop refl) in
+      get_or-cut n c (drop c xs) i d (omega arith) ∙ s
+
+  -- each row has c entries
+  pub widths-cut : (n c : ℕ) (xs : List A) → length xs ≡ n * c → All (λ r. length r ≡ c) (cut n c xs)
+  widths-cut n c xs e k d h =
+      let g = length-cut n c xs in
+      let w = row_within n c k (omega arith) in
+      rw (get_or-cut n c xs k d (omega arith)) (length-take-le c (drop (k * c) xs) (rw length-drop (omega arith)))
+
+  pub elements-cut : (P : A → Type 0) (n c : ℕ) (xs : List A) → All P xs → All (λ r. All P r) (cut n c xs)
+  elements-cut P n c xs a k d h =
+      let g = length-cut n c xs in
+      rw (get_or-cut n c xs k d (omega arith)) (All-take P c (drop (k * c) xs) (All-drop P (k * c) xs a))
+
+  -- one row more at the end
+  pub cut-push : (n c : ℕ) (xs ys : List A) → length xs ≡ n * c → length ys ≡ c → cut (n + 1) c (xs ++ ys) ≡ cut n c xs ++ ys ∷ []
+  cut-push zero c xs ys e f =
+      rw (nil_from_length xs (omega arith)) (ap (λ (r : List A). r ∷ []) (take_all c ys (omega arith)))
+  cut-push (suc n) c xs ys e f =
+      let m : suc n + 1 ≡ suc (n + 1) = omega arith in
+      let t : take c (xs ++ ys) ≡ take c xs = take-append-le c xs ys (omega arith) in
+      let d : drop c (xs ++ ys) ≡ drop c xs ++ ys = drop-append-le c xs ys (omega arith) in
+      let l : length (drop c xs) ≡ n * c = rw length-drop (omega arith) in
+      rw (m, t, d) (ap (λ (r : List (List A)). take c xs ∷ r) (cut-push n c (drop c xs) ys l f))
+
+  pub cut-replicate : (n c : ℕ) (z : A) → cut n c (replicate (n * c) z) ≡ replicate n (replicate c z)
+  cut-replicate zero c z = refl
+  cut-replicate (suc n) c z =
+      let t : take c (replicate (suc n * c) z) ≡ replicate c z = take-replicate c (suc n * c) z (omega arith) in
+      let m : suc n * c - c ≡ n * c = omega arith in
+      let d : drop c (replicate (suc n * c) z) ≡ replicate (n * c) z = drop-replicate c (suc n * c) z ∙ ap (λ k. replicate k z) m in
+      rw (t, d, cut-replicate n c z) refl
+
+  -- row k of two lists that agree up to its end
+  same_row : (c p : ℕ) (xs ys : List A) → take (p + c) xs ≡ take (p + c) ys → take c (drop p xs) ≡ take c (drop p ys)
+  same_row c p xs ys e = sym (drop-take p c xs) ∙ ap (drop p) e ∙ drop-take p c ys
+
+  -- two lists cut into rows, where ys has row r at a and the rows of xs before and behind
+  cut_differs : (n c : ℕ) (xs ys : List A) (a : ℕ) (r : List A) → a < n → take (a * c) ys ≡ take (a * c) xs → take c (drop (a * c) ys) ≡ r → drop (a * c + c) ys ≡ drop (a * c + c) xs → cut n c ys ≡ set (cut n c xs) a r
+  cut_differs n c xs ys a r h below here above =
+      let g = length-cut n c ys in
+      let g' = length-cut n c xs in
+      ext_get_or [] _ _ (g ∙ sym (length-set (cut n c xs) a r ∙ g'))
+      (λ k q. elim (cases_order k a) [
+        | inl same ↦
+            rw same (rw (get_or-cut n c ys a [] h, here) (sym (get_or-set_same (cut n c xs) a r [] (omega arith))))
+        | inr other ↦ elim other [
+          | inl lt ↦
+              (let ne : k ≢ a = omega arith in
+              rw (get_or-cut n c ys k [] (omega arith), get_or-set_other (cut n c xs) a k r [] ne, get_or-cut n c xs k [] (omega arith))
+              (same_row c (k * c) ys xs
+              (sym (take-take (k * c + c) (a * c) ys (row_within a c k lt)) ∙ ap (take (k * c + c)) below
+              ∙ take-take (k * c + c) (a * c) xs (row_within a c k lt))))
+          | inr gt ↦
+              (let ne : k ≢ a = omega arith in
+              let w : a * c + c ≤ k * c = row_within k c a gt in
+              let e : (a * c + c) + (k * c - (a * c + c)) ≡ k * c = omega arith in
+              rw (get_or-cut n c ys k [] (omega arith), get_or-set_other (cut n c xs) a k r [] ne, get_or-cut n c xs k [] (omega arith))
+              (ap (take c)
+              (ap (λ m. drop m ys) (sym e) ∙ sym (drop-drop (k * c - (a * c + c)) (a * c + c) ys)
+              ∙ ap (drop (k * c - (a * c + c))) above ∙ drop-drop (k * c - (a * c + c)) (a * c + c) xs
+              ∙ ap (λ m. drop m xs) e)))
+        ]
+      ])
+
+  -- a write to row a
+  pub cut-put_mid : (n c : ℕ) (xs : List A) (a : ℕ) (ys : List A) → length xs ≡ n * c → a < n → length ys ≡ c → cut n c (put_mid (a * c) c xs ys) ≡ set (cut n c xs) a ys
+  cut-put_mid n c xs a ys e h f =
+      let w = row_within n c a h in
+      let m : (a * c + c) - a * c ≡ c = omega arith in
+      let b : take ((a * c + c) - a * c) (drop (a * c) (put_mid (a * c) c xs ys)) ≡ ys =
+      between-put_mid (a * c) c xs ys (a * c + c) (omega arith) (f ∙ sym m) in
+      cut_differs n c xs (put_mid (a * c) c xs ys) a ys h
+      (take-put_mid_below (a * c) c xs ys (a * c) (omega arith) (omega arith))
+      (rw m at b)
+      (drop-put_mid (a * c) c xs ys (a * c + c) (omega arith) (omega arith) f)
+
+  -- a write to the entry at row i and column j
+  pub cut-set : (n c : ℕ) (xs : List A) (i j : ℕ) (v : A) → i < n → j < c → cut n c (set xs (i * c + j) v) ≡ set (cut n c xs) i (set (get_or (cut n c xs) i []) j v)
+  cut-set n c xs i j v h k =
+      cut_differs n c xs (set xs (i * c + j) v) i (set (get_or (cut n c xs) i []) j v) h
+      (take-set-le (i * c) xs (i * c + j) v (omega arith))
+      (rw (drop-set-add (i * c) xs j v, take-set-lt c (drop (i * c) xs) j v k, get_or-cut n c xs i [] h) refl)
+      (drop-set-lt (i * c + c) xs (i * c + j) v (omega arith))
+
+  -- what the sizes that lie beside a list say of the matrix
+  pub sizes-laid_out : (n c : ℕ) (xs : List A) (m : Matrix A) → laid_out n c xs ≡ m → (row_count m ≡ n) × (m.cols ≡ c)
+  sizes-laid_out n c xs m e = rw (← e) (length-cut n c xs, refl)
+
+  -- the entry at row i and column j
+  pub entry-laid_out : (n c : ℕ) (xs : List A) (z : A) (i j : ℕ) → i < n → j < c → entry z (laid_out n c xs) i j ≡ get_or xs (i * c + j) z
+  entry-laid_out n c xs z i j h k =
+      rw (get_or-cut n c xs i [] h, get_or-take c (drop (i * c) xs) j z k) (get_or-drop (i * c) xs j z)
+
+  -- row i as the part of the list from its first entry to its last
+  pub row_part : (n c : ℕ) (xs : List A) (i : ℕ) → i < n → take ((i * c + c) - i * c) (drop (i * c) xs) ≡ get_or (cut n c xs) i []
+  row_part n c xs i h = let e : (i * c + c) - i * c ≡ c = omega arith in rw (e, get_or-cut n c xs i [] h) refl
+
+  pub length-row_part : (n c : ℕ) (xs : List A) (i : ℕ) → length xs ≡ n * c → i < n → length (take ((i * c + c) - i * c) (drop (i * c) xs)) ≡ c
+  length-row_part n c xs i e h =
+      let l = length-cut n c xs in
+      ap length (row_part n c xs i h) ∙ widths-cut n c xs e i [] (omega arith)

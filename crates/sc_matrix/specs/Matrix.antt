@@ -1,0 +1,89 @@
+-- Matrices, in the standard terms of linear algebra. The operations of the field are parameters, as in Vector.
+use Rattle.std.specs.Prelude.{◌≡◌, ℕ, List, [], map, length, replicate, All, slice_index_or, slice_set, swap, refl}
+use Rattle.std.specs.List.{range_with_len}
+use Rattle.std.specs.Coded.{Coded, code_by, coded×, coded_ℕ, coded_list}
+use Rattle.sc_matrix.specs.Vector.{add_vectors, scale_vector, dot, combination}
+
+-- A matrix is its number of columns and the list of its rows. It may have no row, and its columns still count.
+pub record Matrix (A : Type 0) : Type 0 where
+  pub cols : ℕ
+  pub rows : List (List A)
+
+-- a matrix is stored as the pair of its fields
+abbrev pub matrix_code : {A : Type 0} → Coded A → Coded (Matrix A)
+matrix_code {A} code =
+    code_by (ℕ × List (List A)) (coded× coded_ℕ (coded_list (coded_list code))) (λ m. (m.cols, m.rows))
+    (λ p. record { cols = p.0; rows = p.1 }) (λ _. refl)
+
+-- the most entries that a matrix has
+abbrev pub most_entries : ℕ
+most_entries = 67108864
+
+-- Each row has an entry for each column, and each entry is an element of the field.
+pub record IsMatrix {A : Type 0} (IsElement : A → Type 0) (m : Matrix A) : Type 0 where
+  pub widths : All (λ r. length r ≡ m.cols) m.rows
+  pub elements : All (λ r. All IsElement r) m.rows
+
+module _ {A : Type 0} where
+  -- the number of rows
+  abbrev pub row_count : Matrix A → ℕ
+  row_count m = length m.rows
+
+  -- row i
+  abbrev pub row : Matrix A → ℕ → List A
+  row m i = slice_index_or m.rows i []
+
+  -- the entry at row i and column j
+  abbrev pub entry : A → Matrix A → ℕ → ℕ → A
+  entry zero m i j = slice_index_or (row m i) j zero
+
+  -- column j, from the first row down
+  abbrev pub column : A → Matrix A → ℕ → List A
+  column zero m j = map (λ r. slice_index_or r j zero) m.rows
+
+  -- the matrix with v in place of row i
+  abbrev pub with_row : Matrix A → ℕ → List A → Matrix A
+  with_row m i v = record m { rows = slice_set m.rows i v }
+
+  -- the matrix with x in place of the entry at row i and column j
+  abbrev pub with_entry : Matrix A → ℕ → ℕ → A → Matrix A
+  with_entry m i j x = with_row m i (slice_set (row m i) j x)
+
+  -- n rows and c columns of zeros
+  abbrev pub zero_matrix : A → ℕ → ℕ → Matrix A
+  zero_matrix zero n c = record { cols = c; rows = replicate n (replicate c zero) }
+
+  -- row j is column j of m
+  abbrev pub transpose : A → Matrix A → Matrix A
+  transpose zero m = record { cols = row_count m; rows = map (column zero m) (range_with_len 0 m.cols) }
+
+  -- the entries of m at these rows and these columns
+  abbrev pub submatrix : A → Matrix A → List ℕ → List ℕ → Matrix A
+  submatrix zero m is js = record { cols = length js; rows = map (λ i. map (entry zero m i) js) is }
+
+  -- the product of a matrix and a vector: the dot product of each row with the vector
+  abbrev pub apply : A → (A → A → A) → (A → A → A) → Matrix A → List A → List A
+  apply zero add mul m v = map (λ r. dot zero add mul r v) m.rows
+
+  -- The product of two matrices: each row of a gives the combination of the rows of b that has its entries as
+  -- coefficients. Law `entry-product` says the same by dot products of rows and columns.
+  abbrev pub product : A → (A → A → A) → (A → A → A) → Matrix A → Matrix A → Matrix A
+  product zero add mul a b =
+      record { cols = b.cols; rows = map (λ r. combination zero add mul b.cols r b.rows) a.rows }
+
+  -- the rows a and b exchanged
+  abbrev pub swap_rows : Matrix A → ℕ → ℕ → Matrix A
+  swap_rows m a b = record m { rows = swap m.rows a b }
+
+  -- row a times c
+  abbrev pub scale_row : (A → A → A) → Matrix A → ℕ → A → Matrix A
+  scale_row mul m a c = with_row m a (scale_vector mul c (row m a))
+
+  -- row a plus c times row b
+  abbrev pub add_row : (A → A → A) → (A → A → A) → Matrix A → ℕ → A → ℕ → Matrix A
+  add_row add mul m a c b = with_row m a (add_vectors add (row m a) (scale_vector mul c (row m b)))
+
+  -- The kernel of m: the vectors, with an entry for each column, that m takes to zero.
+  pub record IsInKernel (zero : A) (add mul : A → A → A) (m : Matrix A) (v : List A) : Type 0 where
+    pub width : length v ≡ m.cols
+    pub zeros : apply zero add mul m v ≡ replicate (row_count m) zero
