@@ -9,6 +9,8 @@ mod plan;
 mod port;
 mod sink;
 mod standard;
+#[cfg(test)]
+mod tests;
 mod whole;
 
 pub use error::{Failed, NoMemory};

@@ -9,6 +9,9 @@ use std::alloc::Global;
 use std::io::{BufReader, ErrorKind, Read, Write};
 use std::rt::{Stderr, Stdin, Stdout};
 
+#[cfg(test)]
+mod tests;
+
 /// How often an interrupted call is tried again.
 const RETRIES: u32 = 1000;
 

@@ -38,7 +38,7 @@ chosen-last false false true d e x r y p q s t u v = absurd (cc)
 chosen-last false false false true e x r y p q s t u v = absurd (cc)
 chosen-last false false false false e x r y p q s t u v = ap (λ z. starts z r) u ∙ ap (starts x) v
 
-front_of-is : (bytes : List ℕ)
+pub front_of-is : (bytes : List ℕ)
     → front_of bytes ≡ chosen (length bytes == 0) (nat_lt (length bytes) 8) (nat_lt (length_field bytes) 8) (nat_lt (length bytes) (length_field bytes)) (entry_at bytes) (drop (length_field bytes) bytes)
 unfolding front_of
 front_of-is bytes = refl

@@ -3,6 +3,7 @@ pub mod HeadLaws
 pub mod NextLaws
 pub mod LineLaws
 pub mod PreambleLaws
+pub mod ReadingLaws
 pub mod PartsLaws
 pub mod CaptureLaws
 pub mod StepLaws

@@ -1,5 +1,5 @@
 -- Captures: a preamble and any number of records, with nothing after them.
-use Rattle.std.specs.Prelude.{◌≡◌, ℕ, zero, suc, Option, Some, None, List, [], ◌∷◌, ◌++◌, length, take, drop}
+use Rattle.std.specs.Prelude.{◌≡◌, ℕ, zero, suc, ◌<◌, Option, Some, None, List, [], ◌∷◌, ◌++◌, length, take, drop, slice_index}
 use Rattle.std.specs.List.{AllByRecursion, flat_map}
 use Rattle.sc_rtpdump.specs.Entry.{Entry, IsEntry, entry_bytes, Front, ends, breaks, starts, front_of}
 use Rattle.sc_rtpdump.specs.Preamble.{IsPreamble, preamble_len}
@@ -46,3 +46,18 @@ reading_with (Some n) bytes = reads (take n bytes) (parts_of (drop n bytes))
 
 unfoldable pub reading_of : List ℕ → Reading
 reading_of bytes = reading_with (preamble_len bytes) bytes
+
+-- numbers that are bytes
+abbrev pub AreBytes : List ℕ → Type 0
+AreBytes bytes = (i : ℕ) → slice_index bytes i < 256
+
+-- bytes are a preamble, whole records, and what begins with no record
+pub record IsReading (bytes preamble : List ℕ) (parts : Parts) : Type 0 where
+  pub preamble_is : IsPreamble preamble
+  pub entries_are : AllByRecursion IsEntry parts.entries
+  pub spelled : bytes ≡ preamble ++ (entries_bytes parts.entries ++ parts.tail)
+  pub ended : (e : Entry) (rest : List ℕ) → front_of parts.tail ≡ starts e rest → ⊥
+
+-- no preamble is at the front of bytes
+abbrev pub BeginsOtherwise : List ℕ → Type 0
+BeginsOtherwise bytes = (preamble rest : List ℕ) → IsPreamble preamble → bytes ≡ preamble ++ rest → ⊥

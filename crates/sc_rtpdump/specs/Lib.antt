@@ -2,6 +2,7 @@ pub mod Buffer
 pub mod Capture
 pub mod Entry
 pub mod Lines
+pub mod OneReading
 pub mod Preamble
 pub mod Readings
 pub mod Thinned

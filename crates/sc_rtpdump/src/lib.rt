@@ -5,11 +5,16 @@ mod fault;
 mod head;
 mod next;
 mod preamble;
+mod reading_laws;
 mod record;
 mod thin;
 
 pub use fault::DumpFault;
 pub use next::{next_record, write_record};
 pub use preamble::{Preamble, read_preamble};
+pub use reading_laws::one_reading;
 pub use record::DumpRecord;
 pub use thin::{DropFault, Dropped, drop_records};
+
+#[cfg(test)]
+mod tests;

@@ -1,0 +1,118 @@
+//! Ports and sinks in memory and over the machine's streams, each call once. Expected values were written out by hand.
+ghost use Rattle.std.specs.Prelude.{◌<◌, length};
+
+use super::Move::{Read, Written};
+use super::*;
+use std::test::Fail;
+
+// By the bound alone.
+fn put<S: Sink>(sink: &mut S, piece: &[u8]) -> Result<usize, Failed>
+    requires { 0 < length piece.now }
+{
+    sink.write(piece)
+}
+
+#[test]
+fn moves_in_pieces(rt: HostRuntime) -> Result<(), Fail> {
+    let by_one = [
+        Read(1),
+        Read(1),
+        Read(1),
+        Read(1),
+        Read(1),
+        Read(0),
+        Written(1),
+        Written(1),
+        Written(1),
+    ];
+    let by_two = [Read(2), Read(1), Read(2), Read(0), Written(2), Written(1)];
+    let at_once = [Read(3), Read(2), Read(0), Written(3)];
+    let table: [(usize, &[Move]); 3] = [(1, &by_one), (2, &by_two), (100, &at_once)];
+    for (piece, journal) in table {
+        assert!(rt; piece >= 1);
+        let input = Vec::from_slice(rt.alloc(), &[1, 2, 3, 4, 5])?;
+        let mut port = MemoryPort::new(rt.alloc(), input, 3, 9, piece, Vec::new(rt.alloc()))?;
+        let mut buf = [0; 3];
+        assert_eq!(rt;
+            read_exact_or_end(&mut port, &mut buf),
+            Ok(3),
+            "pieces of {piece}"
+        );
+        assert_eq!(rt; buf, [1, 2, 3], "pieces of {piece}");
+        assert_eq!(rt;
+            read_exact_or_end(&mut port, &mut buf),
+            Ok(2),
+            "pieces of {piece}"
+        );
+        assert_eq!(rt; buf, [4, 5, 3], "pieces of {piece}");
+        assert_eq!(rt; write_whole(&mut port, b"abc"), Ok(()), "pieces of {piece}");
+        assert_eq!(rt; port.given(), b"abc".as_slice(), "pieces of {piece}");
+        assert_eq!(rt; port.journal(), journal, "pieces of {piece}");
+    }
+    Ok(())
+}
+
+#[test]
+fn calls_that_fail(rt: HostRuntime) -> Result<(), Fail> {
+    let input = Vec::from_slice(rt.alloc(), &[1, 2, 3, 4, 5, 6])?;
+    let fails = Vec::from_slice(rt.alloc(), &[0, 2, 5])?;
+    let mut port = MemoryPort::new(rt.alloc(), input, 4, 11, 2, fails)?;
+    let mut buf = [0; 3];
+    // call 0
+    assert_eq!(rt; read_exact_or_end(&mut port, &mut buf), Err(Failed));
+    assert_eq!(rt; buf, [0, 0, 0]);
+    // calls 1 and 2
+    assert_eq!(rt; read_exact_or_end(&mut port, &mut buf), Err(Failed));
+    assert_eq!(rt; buf, [1, 2, 0]);
+    // calls 3 and 4
+    assert_eq!(rt; read_exact_or_end(&mut port, &mut buf), Ok(3));
+    assert_eq!(rt; buf, [3, 4, 5]);
+    // call 5, and then calls 6 and 7
+    assert_eq!(rt; write_whole(&mut port, b"abc"), Err(Failed));
+    assert_eq!(rt; write_whole(&mut port, b"abc"), Ok(()));
+    // call 8 fills the room, and call 9 finds none
+    assert_eq!(rt; write_whole(&mut port, b"def"), Err(Failed));
+    // call 10, the last one that may move a byte
+    assert_eq!(rt; port.read(&mut buf), Ok(1));
+    assert_eq!(rt; port.read(&mut buf), Err(Failed));
+    assert_eq!(rt; buf, [6, 4, 5]);
+    assert_eq!(rt; port.given(), b"abcd".as_slice());
+    let journal = [
+        Read(2),
+        Read(2),
+        Read(1),
+        Written(2),
+        Written(1),
+        Written(1),
+        Read(1),
+    ];
+    assert_eq!(rt; port.journal(), journal.as_slice());
+    Ok(())
+}
+
+#[test]
+fn a_sink_in_memory(rt: HostRuntime) -> Result<(), Fail> {
+    let fails = Vec::from_slice(rt.alloc(), &[1])?;
+    let mut sink = MemorySink::new(rt.alloc(), 4, fails)?;
+    assert_eq!(rt; put(&mut sink, b"ab"), Ok(2));
+    assert_eq!(rt; put(&mut sink, b"c"), Err(Failed));
+    assert_eq!(rt; put(&mut sink, b"cde"), Ok(2));
+    assert_eq!(rt; put(&mut sink, b"e"), Err(Failed));
+    assert_eq!(rt; sink.given(), b"abcd".as_slice());
+    let mut full = MemorySink::new(rt.alloc(), 0, Vec::new(rt.alloc()))?;
+    assert_eq!(rt; put(&mut full, b"a"), Err(Failed));
+    assert!(rt; full.given().is_empty());
+    Ok(())
+}
+
+#[test]
+fn the_machines_streams(rt: HostRuntime) -> Result<(), Fail> {
+    let mut port = StdPort::new(rt.alloc(), rt.stdin(), rt.stdout())?;
+    assert_eq!(rt; write_whole(&mut port, b"to standard output\n"), Ok(()));
+    // a test's standard input is mostly empty
+    let mut buf = [0; 16];
+    assert!(rt; read_exact_or_end(&mut port, &mut buf)? <= 16);
+    let mut notes = StdSink::new(rt.stderr());
+    assert_eq!(rt; put(&mut notes, b"to standard error\n"), Ok(18));
+    Ok(())
+}
