@@ -4,3 +4,4 @@ pub mod OneForm
 pub mod Windows
 pub mod LossWord
 pub mod RunLaws
+pub mod LoseLaws

@@ -3,3 +3,4 @@ pub mod Command
 pub mod Forms
 pub mod Due
 pub mod Run
+pub mod LoseLaws

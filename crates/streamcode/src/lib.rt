@@ -2,6 +2,7 @@
 #![tactic(auto)]
 
 mod end;
+mod lose_laws;
 mod note;
 mod program;
 #[cfg(test)]
@@ -10,6 +11,7 @@ mod word_laws;
 mod words;
 
 pub use end::End;
+pub use lose_laws::lose_is_thinning;
 pub use program::run;
 pub use word_laws::{one_channel, one_form, one_numeral};
 pub use words::{Command, is_loss_word, read_loss_word, read_words};
