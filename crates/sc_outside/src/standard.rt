@@ -1,6 +1,6 @@
 //! Adapters over the machine: standard input and output as a port, standard error as a sink. No contract can say what
 //! they hold, so they tell no content. They count their faults.
-ghost use Rattle.std.specs.Prelude.{None, ◌<◌, ◌≤◌, length, IfSome};
+ghost use Rattle.std.specs.Prelude.{◌≡◌, None, ◌<◌, ◌≤◌, length, IfSome, IfOk};
 
 use super::error::{Failed, NoMemory};
 use super::port::Port;
@@ -61,8 +61,10 @@ pub struct StdPort {
 }
 
 impl StdPort {
-    /// The port over the process's standard streams, which the runtime hands out.
-    pub fn new(alloc: Global, input: Stdin, output: Stdout) -> Result<StdPort, NoMemory> {
+    /// The port over the process's standard streams, which the runtime hands out. Its counts start at 0.
+    pub fn new(alloc: Global, input: Stdin, output: Stdout) -> Result<StdPort, NoMemory>
+        ensures { IfOk result (λ port. (port.read_faults ≡ 0) × (port.write_faults ≡ 0)) }
+    {
         match BufReader::with_capacity(alloc, READ_AHEAD, input) {
             Ok(input) => Ok(StdPort {
                 input,
@@ -113,8 +115,10 @@ pub struct StdSink {
 }
 
 impl StdSink {
-    /// The sink over the process's standard error, which the runtime hands out.
-    pub fn new(output: Stderr) -> StdSink {
+    /// The sink over the process's standard error, which the runtime hands out. Its count starts at 0.
+    pub fn new(output: Stderr) -> StdSink
+        ensures { result.faults ≡ 0 }
+    {
         StdSink { output, faults: 0 }
     }
 }

@@ -1,10 +1,9 @@
 -- Buffers that hold a record.
-use Rattle.std.proofs.Common.{◌≡◌, ℕ, ◌+◌, ◌-◌, ◌^◌, ◌<◌, ◌≤◌, List, [], ◌∷◌, ◌++◌, length, take, drop, refl, sym, ap, ◌∙◌, subst, arith, length-append, length-drop, length-take, drop_at, take-append-drop, append_assoc}
+use Rattle.std.proofs.Common.{◌≡◌, ℕ, ◌+◌, ◌-◌, ◌^◌, ◌<◌, ◌≤◌, List, ◌++◌, length, take, drop, refl, sym, ap, ◌∙◌, subst, arith, length-append, length-drop}
 use Rattle.std.proofs.Math.Seq.{take-append-add}
 use Rattle.std.proofs.lemmas.List.{length-take-le}
-use Rattle.std.specs.Int.{w16, w32, to_be_bytes}
-use Rattle.sc_rtpdump.specs.Entry.{Entry, IsEntry, empty_entry, entry_bytes, head_bytes}
-use Rattle.sc_rtpdump.specs.Buffer.{entry_in, HoldsEntry}
+use Rattle.sc_rtpdump.specs.Entry.{entry_bytes, head_bytes}
+use Rattle.sc_rtpdump.specs.Buffer.{HoldsEntry}
 
 pub length-head_bytes : (len plen offset : ℕ) → length (head_bytes len plen offset) ≡ 8
 length-head_bytes len plen offset = refl

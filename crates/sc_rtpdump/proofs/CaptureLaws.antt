@@ -1,14 +1,14 @@
 -- The one reading of bytes: whole records at the front are found, one after the other, and so is what is behind them.
-use Rattle.std.proofs.Common.{◌≡◌, ℕ, zero, suc, ◌+◌, ◌-◌, ◌^◌, ◌<◌, ◌≤◌, ◌==◌, Bool, true, false, cond, nat_lt, Option, Some, None, List, [], ◌∷◌, ◌++◌, length, take, drop, refl, sym, ap, ◌∙◌, subst, arith, append-nil, append_assoc, length-append, length-take, take_all, drop_at, take_at}
+use Rattle.std.proofs.Common.{◌≡◌, ℕ, zero, suc, ◌+◌, ◌<◌, ◌≤◌, ◌==◌, Bool, true, false, cond, nat_lt, None, List, [], ◌∷◌, ◌++◌, length, take, drop, refl, ap, ◌∙◌, arith, append_assoc, length-append, drop_at, take_at}
 use Rattle.std.proofs.lemmas.List.{take-append-le}
 use Rattle.std.proofs.lemmas.Nat.{from_be_bytes-to_be_bytes_2, from_be_bytes-to_be_bytes_4}
 use Rattle.std.proofs.lemmas.Bool.{lt-ltb, le-ltb, false_from_ne_true, eqb-true}
 use Rattle.std.proofs.Math.Seq.{take-append-add}
 use Rattle.std.specs.Int.{w16, w32, from_be_bytes}
-use Rattle.std.specs.List.{AllByRecursion, flat_map}
+use Rattle.std.specs.List.{AllByRecursion}
 use Rattle.sc_rtpdump.specs.Entry.{Entry, IsEntry, entry_bytes, head_bytes, length_field, entry_at, Break, short_head, short_length, cut_body, Front, ends, breaks, starts, front_of}
 use Rattle.sc_rtpdump.specs.Preamble.{IsPreamble, preamble_len}
-use Rattle.sc_rtpdump.specs.Capture.{entries_bytes, Parts, with_first, parts_within, parts_of, Reading, no_preamble, reads, reading_with, reading_of}
+use Rattle.sc_rtpdump.specs.Capture.{entries_bytes, Parts, with_first, parts_within, parts_of, no_preamble, reads, reading_with, reading_of}
 use Rattle.sc_rtpdump.proofs.HeadLaws.{length_field-head}
 use Rattle.sc_rtpdump.proofs.PreambleLaws.{preamble_len-is}
 

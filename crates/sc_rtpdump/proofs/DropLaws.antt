@@ -1,7 +1,7 @@
 -- Thinning behind a preamble, as thinning the capture.
-use Rattle.std.proofs.Common.{◌≡◌, ℕ, ◌<◌, ◌≤◌, Bool, Option, None, Some, IfSome, List, [], ◌∷◌, ◌++◌, length, Result, Ok, Err, refl, sym, ap, ◌∙◌, subst, arith, append_assoc, append-nil}
-use Rattle.std.specs.Io.KnownBytes.{Consumes, Appends, IsAtEnd}
-use Rattle.sc_outside.specs.Port.{Told, Takes, Puts, Moves}
+use Rattle.std.proofs.Common.{◌≡◌, ℕ, Bool, Option, None, Some, IfSome, List, [], ◌++◌, Result, Ok, Err, sym, ap, ◌∙◌, subst, append_assoc, append-nil}
+use Rattle.std.specs.Io.KnownBytes.{Consumes, Appends}
+use Rattle.sc_outside.specs.Port.{Told, Takes, Puts}
 use Rattle.sc_outside.specs.Whole.{PutsPart}
 use Rattle.sc_outside.proofs.FaultsLaws.{Rose-earlier}
 use Rattle.sc_outside.proofs.MovesLaws.{Moves-trans}
@@ -10,10 +10,10 @@ use Rattle.sc_rtpdump.specs.declared.fault.DumpFault.TheVariants.{Preamble, Reco
 use Rattle.sc_rtpdump.specs.declared.thin.DropFault.{DropFault}
 use Rattle.sc_rtpdump.specs.declared.thin.DropFault.TheVariants.{Dump, More, Fewer, Write}
 use Rattle.sc_rtpdump.specs.declared.thin.Dropped.{Dropped}
-use Rattle.sc_rtpdump.specs.Preamble.{IsPreamble, preamble_len}
-use Rattle.sc_rtpdump.specs.Capture.{parts_of, Reading, no_preamble, reads, reading_of}
+use Rattle.sc_rtpdump.specs.Preamble.{IsPreamble}
+use Rattle.sc_rtpdump.specs.Capture.{parts_of, reading_of}
 use Rattle.sc_rtpdump.specs.Thinned.{rest_end, rest_text, thin_end, thin_text}
-use Rattle.sc_rtpdump.specs.Readings.{GivesFront, TakesSome, HasNoPreamble, PreambleGives}
+use Rattle.sc_rtpdump.specs.Readings.{GivesFront, HasNoPreamble, PreambleGives}
 use Rattle.sc_rtpdump.specs.Thinning.{IsRestDecided, RestGives, GivesRestFront, IsDecided, DropGives, GivesThinFront}
 use Rattle.sc_rtpdump.proofs.CaptureLaws.{reading_of-preamble, reading_of-none}
 use Rattle.sc_rtpdump.proofs.PartsLaws.{IfSome-front}

@@ -1,18 +1,15 @@
 -- Each way in which thinning ends is the one that the input decides, or a fault of the port.
-use Rattle.std.proofs.Common.{◌≡◌, ℕ, ◌+◌, ◌<◌, ◌≤◌, ◌⊎◌, inl, inr, Bool, true, false, cond, nat_lt, None, Some, List, [], ◌∷◌, ◌++◌, length, take, slice_index_or, Result, Ok, Err, refl, sym, ap, ◌∙◌, subst, arith, length-append, take_all}
+use Rattle.std.proofs.Common.{◌≡◌, ℕ, ◌+◌, ◌<◌, ◌≤◌, ◌⊎◌, inl, inr, Bool, true, false, cond, List, [], ◌∷◌, ◌++◌, length, take, slice_index_or, Ok, Err, sym, ap, ◌∙◌, subst, arith, length-append, take_all}
 use Rattle.std.proofs.lemmas.Bool.{lt-ltb, le-ltb}
 use Rattle.std.proofs.lemmas.List.Sums.{count_by_more_yes, count_by_more_no}
-use Rattle.std.specs.Io.KnownBytes.{Consumes, IsAtEnd}
 use Rattle.sc_channel.specs.Flags.{set_count}
-use Rattle.sc_outside.specs.Faults.{Rose}
-use Rattle.sc_outside.specs.Port.{Told, Takes}
+use Rattle.sc_outside.specs.Port.{Told}
 use Rattle.sc_outside.proofs.FaultsLaws.{Rose-earlier}
 use Rattle.sc_rtpdump.specs.declared.fault.DumpFault.{DumpFault}
 use Rattle.sc_rtpdump.specs.declared.fault.DumpFault.TheVariants.{Preamble, RecordHead, RecordLength, Truncated, Read, Memory}
 use Rattle.sc_rtpdump.specs.declared.thin.DropFault.{DropFault}
 use Rattle.sc_rtpdump.specs.declared.thin.DropFault.TheVariants.{Dump, More, Fewer, Write}
-use Rattle.sc_rtpdump.specs.declared.thin.Dropped.{Dropped}
-use Rattle.sc_rtpdump.specs.Entry.{Entry, IsEntry, entry_bytes, short_head, short_length, cut_body, ends}
+use Rattle.sc_rtpdump.specs.Entry.{Entry, entry_bytes, short_head, short_length, cut_body, ends}
 use Rattle.sc_rtpdump.specs.Thinned.{end_at}
 use Rattle.sc_rtpdump.specs.Readings.{NextGives}
 use Rattle.sc_rtpdump.specs.Thinning.{StepGives, Copied, IsRestDecided, RestGives, GivesRestFront}

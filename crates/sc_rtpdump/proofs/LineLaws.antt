@@ -1,7 +1,6 @@
 -- A line that is read byte by byte into a buffer.
-use Rattle.std.proofs.Common.{◌≡◌, ◌≢◌, ℕ, ◌+◌, ◌<◌, List, [], ◌∷◌, ◌++◌, length, take, slice_set, refl, sym, ap, ◌∙◌, subst, arith, append-nil}
-use Rattle.std.proofs.lemmas.List.{take-set, take_more_set, length-set}
-use Rattle.std.specs.List.{AllByRecursion}
+use Rattle.std.proofs.Common.{◌≡◌, ◌≢◌, ℕ, ◌+◌, ◌<◌, List, [], ◌∷◌, ◌++◌, length, take, slice_set, sym, ap, ◌∙◌, subst, append-nil}
+use Rattle.std.proofs.lemmas.List.{take-set, take_more_set}
 use Rattle.sc_outside.specs.Port.{Told, Takes}
 use Rattle.sc_outside.proofs.MovesLaws.{Takes-trans}
 use Rattle.sc_rtpdump.specs.Lines.{IsOneLine}

@@ -1,5 +1,5 @@
 -- A head and what is read behind it make a record, or a fault.
-use Rattle.std.proofs.Common.{◌≡◌, ℕ, ◌+◌, ◌^◌, ◌<◌, ◌≤◌, true, false, List, [], ◌∷◌, ◌++◌, length, Ok, Err, refl, sym, ap, ◌∙◌, subst, arith, length-append}
+use Rattle.std.proofs.Common.{◌≡◌, ℕ, ◌+◌, true, false, List, ◌++◌, length, Ok, Err, refl, sym, ap, ◌∙◌, subst, arith, length-append}
 use Rattle.sc_outside.specs.declared.error.Failed.{Failed}
 use Rattle.sc_outside.specs.Port.{Told, Takes, Puts}
 use Rattle.sc_outside.specs.Whole.{PutsPart}

@@ -1,5 +1,5 @@
 -- The parts of a preamble, read one after the other, make a preamble or a fault.
-use Rattle.std.proofs.Common.{◌≡◌, ◌≢◌, ℕ, ◌+◌, ◌<◌, ◌≤◌, ◌⊎◌, Bool, true, false, Option, Some, None, IfSome, List, [], ◌∷◌, ◌++◌, length, take, Ok, Err, refl, sym, ap, ◌∙◌, subst, arith, append-nil, append_assoc, length-append, length-take, take_all, inl, inr}
+use Rattle.std.proofs.Common.{◌≡◌, ◌≢◌, ℕ, ◌+◌, ◌<◌, ◌≤◌, ◌⊎◌, true, false, Option, Some, None, IfSome, List, [], ◌∷◌, ◌++◌, length, take, Ok, Err, sym, ap, ◌∙◌, subst, arith, append_assoc, length-take, take_all, inl, inr}
 use Rattle.std.proofs.lemmas.Bool.{cases_lt}
 use Rattle.std.specs.Io.KnownBytes.{Consumes, IsAtEnd}
 use Rattle.std.proofs.KnownBytes.{Consumes-whole}
@@ -11,7 +11,7 @@ use Rattle.sc_outside.proofs.MovesLaws.{Takes-trans}
 use Rattle.sc_rtpdump.specs.declared.fault.DumpFault.TheVariants.{Preamble, Read}
 use Rattle.sc_rtpdump.specs.Lines.{IsOneLine, MagicGives, LineGives}
 use Rattle.sc_rtpdump.specs.Preamble.{magic, IsPreamble}
-use Rattle.sc_rtpdump.specs.Readings.{TakesSome, HasNoPreamble, PartsGive}
+use Rattle.sc_rtpdump.specs.Readings.{HasNoPreamble, PartsGive}
 use Rattle.sc_rtpdump.proofs.PreambleLaws.{no_newline, long_line, few_fields, other_beginning, short_beginning}
 
 -- what holds of each input that begins with the bytes that were taken holds of the input, where it is told

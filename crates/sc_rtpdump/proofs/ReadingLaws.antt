@@ -1,15 +1,15 @@
 -- The reading of bytes is the one that the grammar gives.
-use Rattle.std.proofs.Common.{◌≡◌, ◌≢◌, ℕ, zero, suc, ◌+◌, ◌*◌, ◌-◌, ◌^◌, ◌<◌, ◌≤◌, ◌==◌, ◌&&◌, ◌↔◌, Bool, true, false, cond, nat_lt, nat_le, bytes_eq, Option, Some, None, List, [], ◌∷◌, ◌++◌, length, take, drop, get_or, refl, sym, ap, ◌∙◌, subst, arith, append-nil, append_assoc, length-append, length-take, length-drop, take_all, take-append-drop}
-use Rattle.std.proofs.lemmas.Bool.{ltb-false, leb-true, eqb-true, eq-eqb, and_parts, true_from_ne_false, cases_Bool}
+use Rattle.std.proofs.Common.{◌≡◌, ◌≢◌, ℕ, zero, suc, ◌+◌, ◌^◌, ◌<◌, ◌≤◌, ◌==◌, ◌&&◌, ◌↔◌, Bool, true, false, cond, nat_le, bytes_eq, Option, Some, None, List, [], ◌∷◌, ◌++◌, length, take, drop, refl, sym, ap, ◌∙◌, subst, arith, append-nil, append_assoc, length-append, length-take, length-drop, take-append-drop}
+use Rattle.std.proofs.lemmas.Bool.{ltb-false, leb-true, eqb-true, eq-eqb, and_parts}
 use Rattle.std.proofs.lemmas.Slice.Eq.{bytes_eq-Decides}
 use Rattle.std.proofs.Math.Seq.{take-append-add}
 use Rattle.std.specs.Int.{w16, w32, from_be_bytes}
-use Rattle.std.specs.List.{AllByRecursion, flat_map}
+use Rattle.std.specs.List.{AllByRecursion}
 use Rattle.std.specs.Option.{option_map}
-use Rattle.sc_rtpdump.specs.Entry.{Entry, IsEntry, entry_bytes, head_bytes, length_field, entry_at, Break, short_head, short_length, cut_body, Front, ends, breaks, starts, front_of}
+use Rattle.sc_rtpdump.specs.Entry.{Entry, IsEntry, entry_bytes, head_bytes, length_field, entry_at, Front, ends, breaks, starts, front_of}
 use Rattle.sc_rtpdump.specs.Lines.{IsOneLine}
 use Rattle.sc_rtpdump.specs.Preamble.{magic, IsPreamble, newline_at, len_with, preamble_len}
-use Rattle.sc_rtpdump.specs.Capture.{entries_bytes, IsCapture, Parts, with_first, parts_within, parts_of, Reading, no_preamble, reads, reading_with, reading_of, IsReading, AreBytes, BeginsOtherwise}
+use Rattle.sc_rtpdump.specs.Capture.{entries_bytes, IsCapture, Parts, with_first, parts_within, parts_of, no_preamble, reads, reading_with, reading_of, IsReading, AreBytes, BeginsOtherwise}
 use Rattle.sc_rtpdump.proofs.CaptureLaws.{with_all, after_front, parts_of-along, reading_of-preamble, reading_of-none, front_of-end, front_of-entry, length-entry_bytes, chosen, front_of-is}
 use Rattle.sc_rtpdump.proofs.HeadLaws.{head_bytes-from}
 

@@ -1,5 +1,5 @@
 -- One record copied.
-use Rattle.std.proofs.Common.{◌≡◌, ℕ, Bool, true, false, List, [], ◌∷◌, ◌++◌, refl, sym, ap, ◌∙◌, subst, append-nil}
+use Rattle.std.proofs.Common.{◌≡◌, Bool, true, false, [], ◌∷◌, sym, subst, append-nil}
 use Rattle.sc_outside.specs.Port.{Told, Takes, Puts, Moves}
 use Rattle.sc_outside.proofs.MovesLaws.{Moves-trans}
 use Rattle.sc_rtpdump.specs.Entry.{Entry, IsEntry, entry_bytes}

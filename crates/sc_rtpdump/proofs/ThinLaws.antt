@@ -1,22 +1,19 @@
 -- What has been copied so far, and what the rest of the input then makes of it.
-use Rattle.std.proofs.Common.{◌≡◌, ℕ, zero, suc, ◌+◌, ◌<◌, ◌≤◌, Bool, true, false, cond, nat_lt, Option, Some, None, IfSome, List, [], ◌∷◌, ◌++◌, length, take, drop, slice_index_or, Result, Ok, Err, refl, sym, ap, ◌∙◌, subst, arith, append-nil, append_assoc, length-append, length-take, take-append-drop}
+use Rattle.std.proofs.Common.{◌≡◌, ℕ, ◌+◌, ◌<◌, ◌≤◌, Bool, true, false, cond, nat_lt, List, [], ◌∷◌, ◌++◌, length, take, drop, Result, Err, refl, sym, ap, ◌∙◌, subst, arith, append-nil, append_assoc, length-append, length-take, take-append-drop}
 use Rattle.std.proofs.lemmas.List.{drop_all}
 use Rattle.std.proofs.lemmas.Grind.{flat_map-append}
 use Rattle.std.proofs.lemmas.Bool.{lt-ltb, le-ltb}
-use Rattle.std.specs.List.{AllByRecursion, flat_map}
+use Rattle.std.specs.List.{AllByRecursion}
 use Rattle.std.specs.Io.KnownBytes.{Consumes, Appends, IsAtEnd}
 use Rattle.std.proofs.KnownBytes.{Consumes-whole}
-use Rattle.sc_channel.specs.Flags.{set_count}
 use Rattle.sc_outside.specs.Port.{Told, Takes, Moves}
-use Rattle.sc_outside.specs.Whole.{PutsPart}
 use Rattle.sc_outside.proofs.MovesLaws.{Moves-trans, Moves-none}
 use Rattle.sc_rtpdump.specs.declared.thin.DropFault.{DropFault}
-use Rattle.sc_rtpdump.specs.declared.thin.DropFault.TheVariants.{Dump, More, Fewer}
+use Rattle.sc_rtpdump.specs.declared.thin.DropFault.TheVariants.{Dump, More}
 use Rattle.sc_rtpdump.specs.declared.thin.Dropped.{Dropped}
 use Rattle.sc_rtpdump.specs.Entry.{Entry, IsEntry, entry_bytes, Break, Front, ends, breaks, front_of}
 use Rattle.sc_rtpdump.specs.Capture.{entries_bytes, Parts, with_first, parts_within, parts_of}
 use Rattle.sc_rtpdump.specs.Thinned.{kept, break_fault, end_at, rest_end, rest_text}
-use Rattle.sc_rtpdump.specs.Readings.{GivesFront}
 use Rattle.sc_rtpdump.specs.Thinning.{Copies, CopiesPart, Copied, IsRestDecided, GivesRestFront}
 use Rattle.sc_rtpdump.proofs.CaptureLaws.{with_all, entries-with_all, tail-with_all, parts_of-along, parts_within-none, parts_within-broken, parts_within-found, front_of-end}
 use Rattle.sc_rtpdump.proofs.PartsLaws.{IfSome-front}

@@ -1,7 +1,7 @@
 -- Captures: a preamble and any number of records, with nothing after them.
 use Rattle.std.specs.Prelude.{◌≡◌, ℕ, zero, suc, ◌<◌, Option, Some, None, List, [], ◌∷◌, ◌++◌, length, take, drop, slice_index}
 use Rattle.std.specs.List.{AllByRecursion, flat_map}
-use Rattle.sc_rtpdump.specs.Entry.{Entry, IsEntry, entry_bytes, Front, ends, breaks, starts, front_of}
+use Rattle.sc_rtpdump.specs.Entry.{Entry, IsEntry, entry_bytes, ends, breaks, starts, front_of}
 use Rattle.sc_rtpdump.specs.Preamble.{IsPreamble, preamble_len}
 
 -- how records are spelled, one after the other

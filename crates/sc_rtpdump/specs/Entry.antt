@@ -1,7 +1,7 @@
 -- Records of a capture, in this project's profile of the binary rtpdump format: two bytes of length, which is 8 and the
 -- number of body bytes, two bytes of the packet's true length, four bytes of offset in milliseconds, and the body. All
 -- numbers are big-endian.
-use Rattle.std.specs.Prelude.{◌≡◌, ℕ, ◌+◌, ◌^◌, ◌<◌, ◌≤◌, ◌==◌, List, [], ◌∷◌, ◌++◌, length, take, drop, nat_lt, if◌then◌else◌}
+use Rattle.std.specs.Prelude.{ℕ, ◌+◌, ◌^◌, ◌<◌, ◌≤◌, ◌==◌, List, [], ◌++◌, length, take, drop, nat_lt, if◌then◌else◌}
 use Rattle.std.specs.Int.{w16, w32, to_be_bytes, from_be_bytes}
 
 -- a record: the packet's true length, the offset, and the packet or its front

@@ -6,14 +6,9 @@ use Rattle.sc_outside.specs.Faults.{Rose}
 use Rattle.sc_outside.specs.Port.{Told, Takes}
 use Rattle.sc_rtpdump.specs.declared.fault.DumpFault.{DumpFault}
 use Rattle.sc_rtpdump.specs.declared.fault.DumpFault.TheVariants.{Preamble, RecordHead, RecordLength, Truncated, Read, Memory}
-use Rattle.sc_rtpdump.specs.declared.thin.DropFault.{DropFault}
-use Rattle.sc_rtpdump.specs.declared.thin.DropFault.TheVariants.{Dump, More, Fewer, Write}
-use Rattle.sc_rtpdump.specs.declared.thin.Dropped.{Dropped}
 use Rattle.sc_rtpdump.specs.declared.head.Head.{Head}
 use Rattle.sc_rtpdump.specs.Entry.{Entry, IsEntry, empty_entry, entry_bytes, head_bytes, length_field}
 use Rattle.sc_rtpdump.specs.Preamble.{IsPreamble, preamble_len}
-use Rattle.sc_rtpdump.specs.Capture.{reading_of}
-use Rattle.sc_rtpdump.specs.Thinned.{thin_end, thin_text}
 
 -- some bytes were taken, of which P holds
 pub record TakesSome (old new : Told) (P : List ℕ → Type 0) : Type 0 where

@@ -1,5 +1,5 @@
 -- What is left of a capture when some of its records are lost, and how thinning ends.
-use Rattle.std.specs.Prelude.{◌≡◌, ℕ, ◌+◌, Bool, true, false, List, [], ◌∷◌, ◌++◌, length, nat_lt, Result, Ok, Err, if◌then◌else◌}
+use Rattle.std.specs.Prelude.{ℕ, Bool, true, false, List, [], ◌∷◌, ◌++◌, length, nat_lt, Result, Ok, Err, if◌then◌else◌}
 use Rattle.sc_channel.specs.Flags.{set_count}
 use Rattle.sc_rtpdump.specs.declared.fault.DumpFault.{DumpFault}
 use Rattle.sc_rtpdump.specs.declared.fault.DumpFault.TheVariants.{Preamble, RecordHead, RecordLength, Truncated}

@@ -1,5 +1,5 @@
 -- What thinning answers, and what it does to its port.
-use Rattle.std.specs.Prelude.{◌≡◌, ℕ, ◌<◌, ◌≤◌, Bool, true, false, IfSome, List, [], ◌∷◌, ◌++◌, length, take, Result, Ok, Err}
+use Rattle.std.specs.Prelude.{◌≡◌, ℕ, Bool, false, IfSome, List, [], ◌∷◌, length, take, Result, Ok, Err}
 use Rattle.std.specs.Io.KnownBytes.{IsAtEnd, Appends}
 use Rattle.std.specs.List.{AllByRecursion}
 use Rattle.sc_outside.specs.Faults.{Rose}
@@ -12,7 +12,7 @@ use Rattle.sc_rtpdump.specs.declared.thin.Dropped.{Dropped}
 use Rattle.sc_rtpdump.specs.Entry.{Entry, IsEntry, entry_bytes}
 use Rattle.sc_rtpdump.specs.Capture.{entries_bytes, parts_of, reading_of}
 use Rattle.sc_rtpdump.specs.Thinned.{kept, rest_end, rest_text, thin_end, thin_text}
-use Rattle.sc_rtpdump.specs.Readings.{TakesSome, IsPartHead, IsHeadTooShort, IsPartBody, IsBelowRecord, GivesFront, IsLater}
+use Rattle.sc_rtpdump.specs.Readings.{TakesSome, IsPartHead, IsHeadTooShort, IsPartBody, IsBelowRecord, GivesFront}
 
 -- a record was taken, and written again unless it is lost
 pub record Copies (old new : Told) (lost : Bool) : Type 0 where

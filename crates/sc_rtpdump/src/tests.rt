@@ -199,3 +199,32 @@ fn thins_captures(rt: HostRuntime) -> Result<(), Fail> {
     }
     Ok(())
 }
+
+#[test]
+fn prints_faults(rt: HostRuntime) -> Result<(), Fail> {
+    for (fault, want) in [
+        (DropFault::Dump(DumpFault::Preamble), "no preamble"),
+        (
+            DropFault::Dump(DumpFault::RecordHead(0)),
+            "record 0 ends in its head",
+        ),
+        (
+            DropFault::Dump(DumpFault::RecordLength(7)),
+            "record 7 has a length below 8",
+        ),
+        (
+            DropFault::Dump(DumpFault::Truncated(12)),
+            "record 12 is cut",
+        ),
+        (DropFault::Dump(DumpFault::Read), "a read failed"),
+        (DropFault::Dump(DumpFault::Memory), "no memory"),
+        (DropFault::More, "more records than flags"),
+        (DropFault::Fewer(3), "only 3 records"),
+        (DropFault::Write, "a write failed"),
+    ] {
+        let text = format!(in rt.alloc(); "{fault}")?;
+        assert_eq!(rt; text.as_str(), want);
+    }
+    one_reading();
+    Ok(())
+}

@@ -1,4 +1,4 @@
-use Rattle.std.proofs.Common.{◌≡◌, ℕ, ◌<◌, ◌≤◌, length, take, refl, ap, sym, subst, ◌∙◌, arith, take_all}
+use Rattle.std.proofs.Common.{◌≡◌, length, refl, ap, subst, arith, take_all}
 use Rattle.sc_outside.specs.Port.{Takes}
 use Rattle.sc_rtpdump.specs.Entry.{length_field}
 use Rattle.sc_rtpdump.proofs.HeadLaws.{length_field-spelled}

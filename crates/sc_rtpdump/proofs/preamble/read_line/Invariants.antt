@@ -1,4 +1,4 @@
-use Rattle.std.proofs.Common.{length, take}
+use Rattle.std.proofs.Common.{take}
 use Rattle.sc_outside.specs.Port.{Takes}
 use Rattle.sc_rtpdump.specs.Lines.{IsOneLine}
 use Rattle.sc_rtpdump.proofs.preamble.read_line.Given as goal

@@ -1,4 +1,4 @@
-use Rattle.std.proofs.Common.{◌≡◌, ℕ, ◌+◌, List, ◌++◌, length, take, arith, sym, ap, ◌∙◌, subst}
+use Rattle.std.proofs.Common.{◌≡◌, ◌+◌, ◌++◌, take, ap, ◌∙◌, subst}
 use Rattle.sc_outside.specs.Whole.{StopsShort}
 use Rattle.sc_rtpdump.specs.Preamble.{magic}
 use Rattle.sc_rtpdump.proofs.PartsLaws.{magic_missing, magic_failed, line_missing, line_failed, fields_missing, fields_failed, parts_done}

@@ -1,4 +1,4 @@
-use Rattle.std.proofs.Common.{◌≡◌, sym, subst}
+use Rattle.std.proofs.Common.{subst}
 use Rattle.sc_outside.specs.Port.{Puts}
 use Rattle.sc_outside.specs.Whole.{PutsPart}
 use Rattle.sc_rtpdump.specs.Thinning.{RestGives, GivesRestFront}

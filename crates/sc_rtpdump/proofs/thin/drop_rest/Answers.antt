@@ -1,8 +1,8 @@
-use Rattle.std.proofs.Common.{◌≡◌, ℕ, Bool, true, false, ◌+◌, ◌<◌, ◌≤◌, ◌⊎◌, inl, inr, List, [], ◌∷◌, ◌++◌, length, take, arith, sym, ap, ◌∙◌, subst, slice_index_or}
+use Rattle.std.proofs.Common.{◌≡◌, true, false, ◌+◌, ◌⊎◌, inl, inr, length, take, arith, ap, ◌∙◌, subst, slice_index_or}
 use Rattle.std.proofs.lemmas.List.{take_more}
 use Rattle.std.proofs.lemmas.Result.{err_from_is_err_and}
 use Rattle.sc_channel.specs.Flags.{set_count}
-use Rattle.sc_rtpdump.specs.Thinning.{Copied, RestGives}
+use Rattle.sc_rtpdump.specs.Thinning.{Copied}
 use Rattle.sc_rtpdump.proofs.ThinLaws.{Copied-more}
 use Rattle.sc_rtpdump.proofs.EndLaws.{step_ends, last_fault, last_more, last_end, count_more}
 use Rattle.sc_rtpdump.proofs.thin.drop_rest.Goals as goal

@@ -1,4 +1,3 @@
-use Rattle.std.proofs.Common.{◌≡◌, ℕ, ◌<◌, length, get_or, arith}
 use Rattle.sc_rtpdump.proofs.HeadLaws.{head_bytes-from}
 use Rattle.sc_rtpdump.proofs.head.Head.from_bytes.Goals as goal
 

@@ -1,4 +1,4 @@
-use Rattle.std.proofs.Common.{◌≤◌, ◌<◌, arith}
+use Rattle.std.proofs.Common.{arith}
 use Rattle.sc_rtpdump.proofs.BufferLaws.{HoldsEntry-set}
 use Rattle.sc_rtpdump.proofs.record.DumpRecord.clear.Goals as goal
 

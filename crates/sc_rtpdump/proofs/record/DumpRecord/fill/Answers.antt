@@ -1,4 +1,4 @@
-use Rattle.std.proofs.Common.{◌≡◌, ℕ, ◌≤◌, ◌<◌, arith, length, vec_len, sym, subst, ◌∙◌}
+use Rattle.std.proofs.Common.{◌≡◌, arith, length, vec_len, sym, subst}
 use Rattle.sc_rtpdump.specs.Buffer.{HoldsEntry}
 use Rattle.sc_rtpdump.proofs.BufferLaws.{HoldsEntry-set}
 use Rattle.sc_rtpdump.proofs.record.DumpRecord.fill.Goals as goal
