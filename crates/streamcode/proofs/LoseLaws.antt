@@ -1,22 +1,20 @@
 -- `lose` in the format's own words.
-use Rattle.std.proofs.Common.{◌≡◌, ◌↔◌, ℕ, ◌<◌, ◌≤◌, ◌⊎◌, inl, inr, ◌==◌, drop, Bool, true, false, cond, nat_lt, Option, Some, None, List, [], ◌++◌, length, Result, Ok, Err, refl, sym, ap, ◌∙◌, subst, arith, append-nil}
+use Rattle.std.proofs.Common.{◌≡◌, ◌↔◌, ℕ, ◌<◌, ◌≤◌, ◌⊎◌, inl, inr, ◌==◌, drop, Bool, true, false, cond, nat_lt, Option, Some, None, List, [], ◌++◌, length, Result, Ok, Err, refl, sym, ap, ◌∙◌, arith, append-nil}
 use Rattle.std.proofs.lemmas.Bool.{le-ltb, cases_lt, lt-ltb, eqb-true}
 use Rattle.std.proofs.lemmas.List.{nil_from_length}
 use Rattle.sc_channel.specs.Channel.{ChannelNumbers}
-use Rattle.sc_channel.specs.Loss.{IsAdmissible, IsFirstBadWindow}
+use Rattle.sc_channel.specs.Loss.{IsAdmissible}
 use Rattle.sc_channel.specs.Flags.{set_count}
 use Rattle.sc_channel.proofs.FineParts.{IsAdmissible-from_windows, IsAdmissible-no_bad}
-use Rattle.sc_rtpdump.specs.declared.fault.DumpFault.TheVariants.{RecordHead}
 use Rattle.sc_rtpdump.specs.declared.thin.DropFault.{DropFault}
-use Rattle.sc_rtpdump.specs.declared.thin.DropFault.TheVariants.{Dump, More, Fewer}
+use Rattle.sc_rtpdump.specs.declared.thin.DropFault.TheVariants.{More, Fewer}
 use Rattle.sc_rtpdump.specs.declared.thin.Dropped.{Dropped}
-use Rattle.sc_rtpdump.specs.Entry.{Entry, Break, Front, ends, breaks, starts, front_of, short_head, short_length, cut_body, length_field, entry_at}
-use Rattle.sc_rtpdump.specs.Capture.{IsCapture, AreBytes, Parts, Reading, no_preamble, reads, reading_of, IsReading, entries_bytes}
-use Rattle.sc_rtpdump.specs.Thinned.{kept, thinned, end_at, rest_end, rest_text, thin_end, thin_text}
+use Rattle.sc_rtpdump.specs.Entry.{Entry, Front, ends, breaks, starts, front_of, short_head, short_length, cut_body, length_field, entry_at}
+use Rattle.sc_rtpdump.specs.Capture.{IsCapture, AreBytes, Parts, Reading, no_preamble, reads, reading_of, entries_bytes}
+use Rattle.sc_rtpdump.specs.Thinned.{thinned, end_at, rest_end, rest_text, thin_end}
 use Rattle.sc_rtpdump.proofs.CaptureLaws.{front_of-end}
 use Rattle.sc_rtpdump.proofs.ReadingLaws.{reading_of-capture, reading_of-sound}
-use Rattle.streamcode.specs.Words.{lose_word}
-use Rattle.streamcode.specs.Due.{Due, only, bad_window, thin_status, lose_due, command_due}
+use Rattle.streamcode.specs.Due.{bad_window, thin_status, lose_due}
 use Rattle.streamcode.specs.LoseLaws.{due_of_lose, HasRecords}
 use Rattle.streamcode.proofs.Windows.{bad_window-none, bad_window-some, bad_window-is}
 

@@ -1,10 +1,9 @@
 -- How a run ends, put together.
-use Rattle.std.proofs.Common.{◌≡◌, ℕ, ◌+◌, ◌-◌, ◌^◌, ◌<◌, ◌≤◌, ◌⊎◌, inl, inr, Bool, Option, None, Some, IsSome, IfSome, List, [], ◌++◌, Result, Ok, Err, refl, sym, ap, ◌∙◌, subst, arith}
+use Rattle.std.proofs.Common.{◌≡◌, ℕ, ◌-◌, ◌^◌, ◌<◌, ◌≤◌, ◌⊎◌, inl, inr, Bool, Option, None, Some, IsSome, IfSome, List, [], Result, Ok, Err, refl, sym, ap, ◌∙◌, subst, arith}
 use Rattle.std.specs.Io.KnownBytes.{Appends, IsAtEnd}
 use Rattle.std.proofs.KnownBytes.{Appends-nil}
 use Rattle.sc_outside.specs.Faults.{Rose}
 use Rattle.sc_outside.specs.Port.{Told}
-use Rattle.sc_rtpdump.specs.declared.fault.DumpFault.{DumpFault}
 use Rattle.sc_rtpdump.specs.declared.fault.DumpFault.TheVariants.{Preamble, RecordHead, RecordLength, Truncated, Read, Memory}
 use Rattle.sc_rtpdump.specs.declared.thin.DropFault.{DropFault}
 use Rattle.sc_rtpdump.specs.declared.thin.DropFault.TheVariants.{Dump, More, Fewer, Write}
@@ -12,11 +11,11 @@ use Rattle.sc_rtpdump.specs.declared.thin.Dropped.{Dropped}
 use Rattle.sc_rtpdump.specs.Capture.{reading_of}
 use Rattle.sc_rtpdump.specs.Thinned.{thin_end, thin_text}
 use Rattle.sc_rtpdump.specs.Readings.{GivesFront, IsLater}
-use Rattle.sc_rtpdump.specs.Thinning.{DropGives, GivesThinFront, IsDecided}
+use Rattle.sc_rtpdump.specs.Thinning.{IsDecided}
 use Rattle.streamcode.specs.declared.end.End.{End}
 use Rattle.streamcode.specs.declared.end.End.TheVariants.{Usage, NoMemory as No_memory, LossRefused, Thinned, NotThinned}
 use Rattle.streamcode.specs.Words.{Command, lose_word}
-use Rattle.streamcode.specs.Due.{Due, only, thin_status, lose_due, command_due, bad_window}
+use Rattle.streamcode.specs.Due.{Due, thin_status, lose_due, command_due, bad_window}
 use Rattle.streamcode.specs.Run.{status_of, ThinGives, LoseGives, PerformGives, IsOutside, IsDue, IsQuiet, refusing_window}
 
 -- where each input with P has Q, a told input has

@@ -1,6 +1,6 @@
 -- What is due from a run of the program: its status and the bytes that it gives, as a function of the words and the
 -- input. Each command has one case.
-use Rattle.std.specs.Prelude.{◌≡◌, ℕ, suc, ◌||◌, Bool, true, false, Option, Some, None, List, [], ◌∷◌, take, nat_le, Result, Ok, Err, if◌then◌else◌}
+use Rattle.std.specs.Prelude.{ℕ, suc, ◌||◌, Bool, Option, Some, None, List, [], ◌∷◌, take, nat_le, Result, Ok, Err, if◌then◌else◌}
 use Rattle.std.specs.Option.{option_map}
 use Rattle.sc_channel.specs.Channel.{ChannelNumbers}
 use Rattle.sc_channel.specs.Flags.{set_count, span}

@@ -1,16 +1,16 @@
 -- What a run answers, and what it does to its port.
-use Rattle.std.specs.Prelude.{◌≡◌, ℕ, ◌-◌, ◌^◌, ◌<◌, ◌⊎◌, Bool, Option, Some, None, IsSome, IfSome, List, [], Ok, Err}
+use Rattle.std.specs.Prelude.{◌≡◌, ℕ, ◌-◌, ◌^◌, ◌<◌, ◌⊎◌, Bool, Option, Some, None, List, Ok, Err}
 use Rattle.std.specs.Io.KnownBytes.{Appends}
 use Rattle.sc_outside.specs.Faults.{Rose}
 use Rattle.sc_outside.specs.Port.{Told}
 use Rattle.sc_rtpdump.specs.declared.fault.DumpFault.TheVariants.{Preamble, RecordHead, RecordLength, Truncated, Read, Memory}
 use Rattle.sc_rtpdump.specs.declared.thin.DropFault.TheVariants.{Dump, More, Fewer, Write}
-use Rattle.sc_rtpdump.specs.Readings.{GivesFront, IsLater}
+use Rattle.sc_rtpdump.specs.Readings.{IsLater}
 use Rattle.sc_rtpdump.specs.Thinning.{DropGives, GivesThinFront}
 use Rattle.streamcode.specs.declared.end.End.{End}
 use Rattle.streamcode.specs.declared.end.End.TheVariants.{Usage, NoMemory, LossRefused, Thinned, NotThinned}
-use Rattle.streamcode.specs.Words.{Command, lose_word, command_of}
-use Rattle.streamcode.specs.Due.{Due, bad_window, due}
+use Rattle.streamcode.specs.Words.{Command, lose_word}
+use Rattle.streamcode.specs.Due.{Due, bad_window}
 
 -- the status of an end
 abbrev pub status_of : End → ℕ

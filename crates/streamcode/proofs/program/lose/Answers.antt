@@ -1,4 +1,4 @@
-use Rattle.std.proofs.Common.{◌≡◌, ℕ, ◌≤◌, length, map, refl, sym, ap, ◌∙◌, subst, arith}
+use Rattle.std.proofs.Common.{◌≡◌, ◌≤◌, length, map, refl, sym, ap, ◌∙◌, subst}
 use Rattle.streamcode.specs.Words.{is_lost}
 use Rattle.streamcode.specs.Due.{bad_window}
 use Rattle.streamcode.specs.Run.{ThinGives}
