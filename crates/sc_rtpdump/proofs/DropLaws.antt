@@ -1,6 +1,7 @@
 -- Thinning behind a preamble, as thinning the capture.
-use Rattle.std.proofs.Common.{◌≡◌, ℕ, Bool, Option, None, Some, IfSome, List, [], ◌++◌, Result, Ok, Err, sym, ap, ◌∙◌, subst, append_assoc, append-nil}
+use Rattle.std.proofs.Common.{◌≡◌, ℕ, Bool, Option, None, Some, IfSome, List, [], ◌++◌, Result, Ok, Err, refl, sym, ap, ◌∙◌, subst, append_assoc, append-nil}
 use Rattle.std.specs.Io.KnownBytes.{Consumes, Appends}
+use Rattle.std.proofs.KnownBytes.{Consumes-nil, Appends-nil}
 use Rattle.sc_outside.specs.Port.{Told, Takes, Puts}
 use Rattle.sc_outside.specs.Whole.{PutsPart}
 use Rattle.sc_outside.proofs.FaultsLaws.{Rose-earlier}
@@ -85,6 +86,12 @@ drop-behind flags a b c d pre (Err (Dump (Truncated i))) h t p r = decided flags
 IfSome-weaker : (o : Option (List ℕ)) (P Q : List ℕ → Type 0) → ((x : List ℕ) → P x → Q x) → IfSome o P → IfSome o Q
 IfSome-weaker None P Q f h = tt
 IfSome-weaker (Some x) P Q f h = f x h
+
+-- nothing was given
+pub front-none : (flags : List Bool) (a : Told) → GivesThinFront flags a a
+front-none flags a =
+    IfSome-front a.left a.left [] (λ input. GivesFront a a (thin_text flags (reading_of input))) (Consumes-nil a.left)
+    (λ input. record { put = []; rest = thin_text flags (reading_of input); parts = refl; given = Appends-nil a.given })
 
 -- a write stopped within the preamble
 pub front-preamble : (flags : List Bool) (a b c : Told) (pre : List ℕ) → IsPreamble pre → Takes a b pre → PutsPart b c pre → GivesThinFront flags a c

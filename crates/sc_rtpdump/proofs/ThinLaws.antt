@@ -5,8 +5,9 @@ use Rattle.std.proofs.lemmas.Grind.{flat_map-append}
 use Rattle.std.proofs.lemmas.Bool.{lt-ltb, le-ltb}
 use Rattle.std.specs.List.{AllByRecursion}
 use Rattle.std.specs.Io.KnownBytes.{Consumes, Appends, IsAtEnd}
-use Rattle.std.proofs.KnownBytes.{Consumes-whole}
-use Rattle.sc_outside.specs.Port.{Told, Takes, Moves}
+use Rattle.std.proofs.KnownBytes.{Consumes-whole, Appends-trans}
+use Rattle.sc_outside.specs.Port.{Told, Takes, Puts, Moves}
+use Rattle.sc_outside.specs.Whole.{PutsPart}
 use Rattle.sc_outside.proofs.MovesLaws.{Moves-trans, Moves-none}
 use Rattle.sc_rtpdump.specs.declared.thin.DropFault.{DropFault}
 use Rattle.sc_rtpdump.specs.declared.thin.DropFault.TheVariants.{Dump, More}
@@ -14,7 +15,7 @@ use Rattle.sc_rtpdump.specs.declared.thin.Dropped.{Dropped}
 use Rattle.sc_rtpdump.specs.Entry.{Entry, IsEntry, entry_bytes, Break, Front, ends, breaks, front_of}
 use Rattle.sc_rtpdump.specs.Capture.{entries_bytes, Parts, with_first, parts_within, parts_of}
 use Rattle.sc_rtpdump.specs.Thinned.{kept, break_fault, end_at, rest_end, rest_text}
-use Rattle.sc_rtpdump.specs.Thinning.{Copies, CopiesPart, Copied, IsRestDecided, GivesRestFront}
+use Rattle.sc_rtpdump.specs.Thinning.{Copies, Copied, IsRestDecided, GivesRestFront}
 use Rattle.sc_rtpdump.proofs.CaptureLaws.{with_all, entries-with_all, tail-with_all, parts_of-along, parts_within-none, parts_within-broken, parts_within-found, front_of-end}
 use Rattle.sc_rtpdump.proofs.PartsLaws.{IfSome-front}
 
@@ -53,31 +54,65 @@ text-all flags es room =
 
 -- ---- copying on
 
-pub Copied-none : (flags : List Bool) (a : Told) → Copied flags a a 0
-Copied-none flags a = record { entries = []; fit = tt; count = refl; moves = subst (Moves a a []) (ap entries_bytes (sym (kept-none (take 0 flags)))) (Moves-none a) }
+pub Copied-none : (flags : List Bool) (a : Told) (held : List ℕ) → held ≡ [] → Copied flags a a 0 held
+Copied-none flags a held e = record {
+  entries = [];
+  fit = tt;
+  count = refl;
+  put = [];
+  moves = Moves-none a;
+  parts = ap entries_bytes (kept-none (take 0 flags)) ∙ sym e;
+}
+
+-- nothing waits, once all that waited was written
+pub Copied-written : (flags : List Bool) (a b c : Told) (n : ℕ) (held : List ℕ) → Copied flags a b n held → Puts b c held → Copied flags a c n []
+Copied-written flags a b c n held h p = record {
+  entries = h.entries;
+  fit = h.fit;
+  count = h.count;
+  put = h.put ++ held;
+  moves = subst (λ l. Moves a c l (h.put ++ held)) (append-nil (entries_bytes h.entries)) (Moves-trans a b c (entries_bytes h.entries) [] h.put held h.moves p.moves);
+  parts = h.parts ∙ sym (append-nil (h.put ++ held));
+}
 
 All-append : (es : List Entry) (e : Entry) → AllByRecursion IsEntry es → IsEntry e → AllByRecursion IsEntry (es ++ e ∷ [])
 All-append [] e h g = (g, tt)
 All-append (x ∷ es) e h g = (h.0, All-append es e h.1 g)
 
-pub Copied-more : (flags : List Bool) (a b c : Told) (n : ℕ) (flag : Bool) → take (n + 1) flags ≡ take n flags ++ flag ∷ [] → n < length flags
-    → Copied flags a b n → Copies b c flag → Copied flags a c (n + 1)
-Copied-more flags a b c n flag more within h s =
+pub Copied-more : (flags : List Bool) (a b c : Told) (n : ℕ) (flag : Bool) (held now : List ℕ) → take (n + 1) flags ≡ take n flags ++ flag ∷ [] → n < length flags
+    → Copied flags a b n held → Copies b c flag held now → Copied flags a c (n + 1) now
+Copied-more flags a b c n flag held now more within h s =
     let es = h.entries in
     let e = s.entry in
+    let one = entries_bytes (kept (flag ∷ []) (e ∷ [])) in
     let size : length (take n flags) ≡ length es = omega (arith, length-take n flags, h.count) in
     let bytes : entries_bytes es ++ entry_bytes e ≡ entries_bytes (es ++ e ∷ []) =
     ap (λ l. entries_bytes es ++ l) (sym (append-nil (entry_bytes e))) ∙ sym (entries_bytes-append es (e ∷ [])) in
-    let text : entries_bytes (kept (take n flags) es) ++ entries_bytes (kept (flag ∷ []) (e ∷ [])) ≡ entries_bytes (kept (take (n + 1) flags) (es ++ e ∷ [])) =
-    sym (entries_bytes-append (kept (take n flags) es) (kept (flag ∷ []) (e ∷ [])))
-    ∙ ap entries_bytes (sym (kept-append (take n flags) (flag ∷ []) es (e ∷ []) size))
-    ∙ ap (λ l. entries_bytes (kept l (es ++ e ∷ []))) (sym more) in
+    let text : entries_bytes (kept (take (n + 1) flags) (es ++ e ∷ [])) ≡ entries_bytes (kept (take n flags) es) ++ one =
+    ap (λ l. entries_bytes (kept l (es ++ e ∷ []))) more
+    ∙ ap entries_bytes (kept-append (take n flags) (flag ∷ []) es (e ∷ []) size)
+    ∙ entries_bytes-append (kept (take n flags) es) (kept (flag ∷ []) (e ∷ [])) in
     record {
       entries = es ++ e ∷ [];
       fit = All-append es e h.fit s.fits;
       count = omega (arith, length-append es (e ∷ []), h.count);
-      moves = subst (λ l. Moves a c l (entries_bytes (kept (take (n + 1) flags) (es ++ e ∷ [])))) bytes
-          (subst (Moves a c (entries_bytes es ++ entry_bytes e)) text (Moves-trans a b c (entries_bytes es) (entry_bytes e) _ _ h.moves s.moves));
+      put = h.put ++ s.put;
+      moves = subst (λ l. Moves a c l (h.put ++ s.put)) bytes (Moves-trans a b c (entries_bytes es) (entry_bytes e) h.put s.put h.moves s.moves);
+      parts = text ∙ ap (λ l. l ++ one) h.parts ∙ append_assoc h.put held one ∙ ap (λ l. h.put ++ l) s.parts ∙ sym (append_assoc h.put s.put now);
+    }
+
+-- whole records and more bytes were taken, and then all written that waited
+record Reaches (flags : List Bool) (a c d : Told) (n : ℕ) (es : List Entry) (taken : List ℕ) : Type 0 where
+  left : Consumes a.left c.left (entries_bytes es ++ taken)
+  given : Appends a.given d.given (entries_bytes (kept (take n flags) es))
+
+reaches : (flags : List Bool) (a b c d : Told) (n : ℕ) (taken held : List ℕ) (h : Copied flags a b n held) → Takes b c taken → Puts c d held
+    → Reaches flags a c d n h.entries taken
+reaches flags a b c d n taken held h t p =
+    let whole = Moves-trans a b c (entries_bytes h.entries) taken h.put [] h.moves t.moves in
+    record {
+      left = whole.left;
+      given = subst (Appends a.given d.given) (sym h.parts) (Appends-trans _ _ _ h.put held (subst (Appends a.given c.given) (append-nil h.put) whole.given) p.moves.given);
     }
 
 -- ---- what is due, once some records are known to stand in front
@@ -95,10 +130,11 @@ due-front flags es rest h room =
     )
 
 -- a front of what is due was given, wherever the reading stopped
-pub front-copied : (flags : List Bool) (a b c : Told) (n : ℕ) (taken : List ℕ) → n ≤ length flags → Copied flags a b n → Takes b c taken → GivesRestFront flags a c
-front-copied flags a b c n taken room h t =
+pub front-copied : (flags : List Bool) (a b c d : Told) (n : ℕ) (taken held : List ℕ) → n ≤ length flags → Copied flags a b n held → Takes b c taken → Puts c d held
+    → GivesRestFront flags a d
+front-copied flags a b c d n taken held room h t p =
     let es = h.entries in
-    let whole = Moves-trans a b c (entries_bytes es) taken _ [] h.moves t.moves in
+    let whole = reaches flags a b c d n taken held h t p in
     let count : length es ≤ length flags = omega (arith, h.count) in
     IfSome-front _ _ (entries_bytes es ++ taken) _ whole.left (λ rest.
     let due = due-front flags es (taken ++ rest) h.fit count in
@@ -107,39 +143,26 @@ front-copied flags a b c n taken room h t =
       put = entries_bytes (kept (take n flags) es);
       rest = due.0;
       parts = ap (λ l. rest_text flags (parts_of l)) split ∙ due.1 ∙ ap (λ m. entries_bytes (kept (take m flags) es) ++ due.0) h.count;
-      given = subst (Appends _ _) (append-nil (entries_bytes (kept (take n flags) es))) whole.given;
+      given = whole.given;
     })
 
--- the same where a write stopped within a record
-pub front-part : (flags : List Bool) (a b c : Told) (n : ℕ) (flag : Bool) → take (n + 1) flags ≡ take n flags ++ flag ∷ [] → n < length flags
-    → Copied flags a b n → CopiesPart b c flag → GivesRestFront flags a c
-front-part flags a b c n flag more within h s =
+-- the same where a write stopped within the bytes that waited
+pub front-part : (flags : List Bool) (a b c d : Told) (n : ℕ) (taken held : List ℕ) → n ≤ length flags → Copied flags a b n held → Takes b c taken → PutsPart c d held
+    → GivesRestFront flags a d
+front-part flags a b c d n taken held room h t p =
     let es = h.entries in
-    let e = s.entry in
-    let all = es ++ e ∷ [] in
-    let size : length (take n flags) ≡ length es = omega (arith, length-take n flags, h.count) in
-    let count : length all ≡ n + 1 = omega (arith, length-append es (e ∷ []), h.count) in
-    let bytes : entries_bytes es ++ entry_bytes e ≡ entries_bytes all =
-    ap (λ l. entries_bytes es ++ l) (sym (append-nil (entry_bytes e))) ∙ sym (entries_bytes-append es (e ∷ [])) in
-    let kept_one : entries_bytes (kept (flag ∷ []) (e ∷ [])) ≡ entry_bytes e = ap (λ f. entries_bytes (kept (f ∷ []) (e ∷ []))) s.kept_one ∙ append-nil (entry_bytes e) in
-    let before = entries_bytes (kept (take n flags) es) in
-    let text : entries_bytes (kept (take (n + 1) flags) all) ≡ before ++ entry_bytes e =
-    ap (λ l. entries_bytes (kept l all)) more
-    ∙ ap entries_bytes (kept-append (take n flags) (flag ∷ []) es (e ∷ []) size)
-    ∙ entries_bytes-append (kept (take n flags) es) (kept (flag ∷ []) (e ∷ []))
-    ∙ ap (λ l. before ++ l) kept_one in
-    let one = Moves-trans b s.mid c (entry_bytes e) [] [] s.puts.put s.takes.moves s.puts.puts.moves in
-    let whole = Moves-trans a b c (entries_bytes es) (entry_bytes e ++ []) before s.puts.put h.moves one in
-    let taken : entries_bytes es ++ (entry_bytes e ++ []) ≡ entries_bytes all = ap (λ l. entries_bytes es ++ l) (append-nil (entry_bytes e)) ∙ bytes in
-    IfSome-front _ _ (entries_bytes all) _ (subst (Consumes _ _) taken whole.left) (λ rest.
-    let due = due-front flags all rest (All-append es e h.fit s.fits) (omega (arith, count)) in
+    let whole = Moves-trans a b c (entries_bytes es) taken h.put [] h.moves t.moves in
+    let count : length es ≤ length flags = omega (arith, h.count) in
+    IfSome-front _ _ (entries_bytes es ++ taken) _ whole.left (λ rest.
+    let due = due-front flags es (taken ++ rest) h.fit count in
+    let split : (entries_bytes es ++ taken) ++ rest ≡ entries_bytes es ++ (taken ++ rest) = append_assoc (entries_bytes es) taken rest in
     record {
-      put = before ++ s.puts.put;
-      rest = s.puts.rest ++ due.0;
-      parts = due.1 ∙ ap (λ m. entries_bytes (kept (take m flags) all) ++ due.0) count
-          ∙ ap (λ l. l ++ due.0) (text ∙ ap (λ l. before ++ l) s.puts.parts ∙ sym (append_assoc before s.puts.put s.puts.rest))
-          ∙ append_assoc (before ++ s.puts.put) s.puts.rest due.0;
-      given = whole.given;
+      put = h.put ++ p.put;
+      rest = p.rest ++ due.0;
+      parts = ap (λ l. rest_text flags (parts_of l)) split ∙ due.1 ∙ ap (λ m. entries_bytes (kept (take m flags) es) ++ due.0) h.count
+          ∙ ap (λ l. l ++ due.0) (h.parts ∙ ap (λ l. h.put ++ l) p.parts ∙ sym (append_assoc h.put p.put p.rest))
+          ∙ append_assoc (h.put ++ p.put) p.rest due.0;
+      given = Appends-trans _ _ _ h.put p.put (subst (Appends a.given c.given) (append-nil h.put) whole.given) p.puts.moves.given;
     })
 
 -- ---- how thinning ends
@@ -206,50 +229,50 @@ stops-more flags es e rest h g all =
 
 -- the answer is what is due, and so is what was given
 gives : (flags : List Bool) (a c : Told) (es : List Entry) (n : ℕ) (bytes : List ℕ) (result : Result Dropped DropFault) → length es ≡ n
-    → Appends a.given c.given (entries_bytes (kept (take n flags) es) ++ []) → Stops flags es bytes result
+    → Appends a.given c.given (entries_bytes (kept (take n flags) es)) → Stops flags es bytes result
     → (result ≡ rest_end flags (parts_of bytes)) × Appends a.given c.given (rest_text flags (parts_of bytes))
 gives flags a c es n bytes result count g s =
-    (s.end, subst (Appends _ _) (append-nil (entries_bytes (kept (take n flags) es)) ∙ ap (λ m. entries_bytes (kept (take m flags) es)) (sym count) ∙ sym s.text) g)
+    (s.end, subst (Appends _ _) (ap (λ m. entries_bytes (kept (take m flags) es)) (sym count) ∙ sym s.text) g)
 
 -- at the end of the input
-pub decided-end : (flags : List Bool) (a b c : Told) (n : ℕ) → n ≤ length flags → Copied flags a b n → Takes b c [] → IsAtEnd c.left
-    → IsRestDecided flags a c (end_at flags n ends)
-decided-end flags a b c n room h t end =
+pub decided-end : (flags : List Bool) (a b c d : Told) (n : ℕ) (held : List ℕ) → n ≤ length flags → Copied flags a b n held → Takes b c [] → Puts c d held → IsAtEnd c.left
+    → IsRestDecided flags a d (end_at flags n ends)
+decided-end flags a b c d n held room h t p end =
     let es = h.entries in
-    let whole = Moves-trans a b c (entries_bytes es) [] _ [] h.moves t.moves in
+    let whole = reaches flags a b c d n [] held h t p in
     Consumes-whole _ _ (entries_bytes es ++ []) _ whole.left end
-    (subst (λ m. (end_at flags m ends ≡ rest_end flags (parts_of (entries_bytes es ++ []))) × Appends a.given c.given (rest_text flags (parts_of (entries_bytes es ++ [])))) h.count
-    (gives flags a c es n (entries_bytes es ++ []) _ h.count whole.given (stops-end flags es [] h.fit (omega (arith, h.count)) (front_of-end [] refl))))
+    (subst (λ m. (end_at flags m ends ≡ rest_end flags (parts_of (entries_bytes es ++ []))) × Appends a.given d.given (rest_text flags (parts_of (entries_bytes es ++ [])))) h.count
+    (gives flags a d es n (entries_bytes es ++ []) _ h.count whole.given (stops-end flags es [] h.fit (omega (arith, h.count)) (front_of-end [] refl))))
 
 -- at a tail that ends the input and begins with no record
-pub decided-tail : (flags : List Bool) (a b c : Told) (n : ℕ) (tail : List ℕ) (break : Break) → n ≤ length flags → Copied flags a b n → Takes b c tail → IsAtEnd c.left
-    → front_of tail ≡ breaks break → IsRestDecided flags a c (Err (Dump (break_fault n break)))
-decided-tail flags a b c n tail break room h t end f =
+pub decided-tail : (flags : List Bool) (a b c d : Told) (n : ℕ) (held tail : List ℕ) (break : Break) → n ≤ length flags → Copied flags a b n held → Takes b c tail → Puts c d held → IsAtEnd c.left
+    → front_of tail ≡ breaks break → IsRestDecided flags a d (Err (Dump (break_fault n break)))
+decided-tail flags a b c d n held tail break room h t p end f =
     let es = h.entries in
-    let whole = Moves-trans a b c (entries_bytes es) tail _ [] h.moves t.moves in
+    let whole = reaches flags a b c d n tail held h t p in
     Consumes-whole _ _ (entries_bytes es ++ tail) _ whole.left end
-    (subst (λ m. (let r : Result Dropped DropFault = Err (Dump (break_fault m break)) in r ≡ rest_end flags (parts_of (entries_bytes es ++ tail))) × Appends a.given c.given (rest_text flags (parts_of (entries_bytes es ++ tail)))) h.count
-    (gives flags a c es n (entries_bytes es ++ tail) _ h.count whole.given (stops-broken flags es tail break h.fit (omega (arith, h.count)) f)))
+    (subst (λ m. (let r : Result Dropped DropFault = Err (Dump (break_fault m break)) in r ≡ rest_end flags (parts_of (entries_bytes es ++ tail))) × Appends a.given d.given (rest_text flags (parts_of (entries_bytes es ++ tail)))) h.count
+    (gives flags a d es n (entries_bytes es ++ tail) _ h.count whole.given (stops-broken flags es tail break h.fit (omega (arith, h.count)) f)))
 
 -- at bytes that begin with no record, whatever follows them
-pub decided-front : (flags : List Bool) (a b c : Told) (n : ℕ) (taken : List ℕ) (break : Break) → n ≤ length flags → Copied flags a b n → Takes b c taken
-    → ((rest : List ℕ) → front_of (taken ++ rest) ≡ breaks break) → IsRestDecided flags a c (Err (Dump (break_fault n break)))
-decided-front flags a b c n taken break room h t f =
+pub decided-front : (flags : List Bool) (a b c d : Told) (n : ℕ) (held taken : List ℕ) (break : Break) → n ≤ length flags → Copied flags a b n held → Takes b c taken → Puts c d held
+    → ((rest : List ℕ) → front_of (taken ++ rest) ≡ breaks break) → IsRestDecided flags a d (Err (Dump (break_fault n break)))
+decided-front flags a b c d n held taken break room h t p f =
     let es = h.entries in
-    let whole = Moves-trans a b c (entries_bytes es) taken _ [] h.moves t.moves in
-    let P : List ℕ → Type 0 = λ bytes. (let r : Result Dropped DropFault = Err (Dump (break_fault n break)) in r ≡ rest_end flags (parts_of bytes)) × Appends a.given c.given (rest_text flags (parts_of bytes)) in
+    let whole = reaches flags a b c d n taken held h t p in
+    let P : List ℕ → Type 0 = λ bytes. (let r : Result Dropped DropFault = Err (Dump (break_fault n break)) in r ≡ rest_end flags (parts_of bytes)) × Appends a.given d.given (rest_text flags (parts_of bytes)) in
     IfSome-front _ _ (entries_bytes es ++ taken) P whole.left (λ rest.
     subst P (sym (append_assoc (entries_bytes es) taken rest))
-    (subst (λ m. (let r : Result Dropped DropFault = Err (Dump (break_fault m break)) in r ≡ rest_end flags (parts_of (entries_bytes es ++ (taken ++ rest)))) × Appends a.given c.given (rest_text flags (parts_of (entries_bytes es ++ (taken ++ rest))))) h.count
-    (gives flags a c es n (entries_bytes es ++ (taken ++ rest)) _ h.count whole.given (stops-broken flags es (taken ++ rest) break h.fit (omega (arith, h.count)) (f rest)))))
+    (subst (λ m. (let r : Result Dropped DropFault = Err (Dump (break_fault m break)) in r ≡ rest_end flags (parts_of (entries_bytes es ++ (taken ++ rest)))) × Appends a.given d.given (rest_text flags (parts_of (entries_bytes es ++ (taken ++ rest))))) h.count
+    (gives flags a d es n (entries_bytes es ++ (taken ++ rest)) _ h.count whole.given (stops-broken flags es (taken ++ rest) break h.fit (omega (arith, h.count)) (f rest)))))
 
 -- at a record behind that of the last flag
-pub decided-more : (flags : List Bool) (a b c : Told) (n : ℕ) (e : Entry) → n ≡ length flags → Copied flags a b n → IsEntry e → Takes b c (entry_bytes e)
-    → IsRestDecided flags a c (Err More)
-decided-more flags a b c n e all h g t =
+pub decided-more : (flags : List Bool) (a b c d : Told) (n : ℕ) (held : List ℕ) (e : Entry) → n ≡ length flags → Copied flags a b n held → IsEntry e → Takes b c (entry_bytes e) → Puts c d held
+    → IsRestDecided flags a d (Err More)
+decided-more flags a b c d n held e all h g t p =
     let es = h.entries in
-    let whole = Moves-trans a b c (entries_bytes es) (entry_bytes e) _ [] h.moves t.moves in
-    let P : List ℕ → Type 0 = λ bytes. (let r : Result Dropped DropFault = Err More in r ≡ rest_end flags (parts_of bytes)) × Appends a.given c.given (rest_text flags (parts_of bytes)) in
+    let whole = reaches flags a b c d n (entry_bytes e) held h t p in
+    let P : List ℕ → Type 0 = λ bytes. (let r : Result Dropped DropFault = Err More in r ≡ rest_end flags (parts_of bytes)) × Appends a.given d.given (rest_text flags (parts_of bytes)) in
     IfSome-front _ _ (entries_bytes es ++ entry_bytes e) P whole.left (λ rest.
     subst P (sym (append_assoc (entries_bytes es) (entry_bytes e) rest))
-    (gives flags a c es n (entries_bytes es ++ (entry_bytes e ++ rest)) _ h.count whole.given (stops-more flags es e rest h.fit g (h.count ∙ all))))
+    (gives flags a d es n (entries_bytes es ++ (entry_bytes e ++ rest)) _ h.count whole.given (stops-more flags es e rest h.fit g (h.count ∙ all))))

@@ -1,6 +1,7 @@
 pub mod Buffer
 pub mod Capture
 pub mod Entry
+pub mod Held
 pub mod Lines
 pub mod OneReading
 pub mod Preamble

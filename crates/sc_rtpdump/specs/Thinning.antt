@@ -1,9 +1,9 @@
 -- What thinning answers, and what it does to its port.
-use Rattle.std.specs.Prelude.{◌≡◌, ℕ, Bool, false, IfSome, List, [], ◌∷◌, length, take, Result, Ok, Err}
+use Rattle.std.specs.Prelude.{◌≡◌, ℕ, Bool, IfSome, List, [], ◌∷◌, ◌++◌, length, take, Result, Ok, Err}
 use Rattle.std.specs.Io.KnownBytes.{IsAtEnd, Appends}
 use Rattle.std.specs.List.{AllByRecursion}
 use Rattle.sc_outside.specs.Faults.{Rose}
-use Rattle.sc_outside.specs.Port.{Told, Takes, Moves}
+use Rattle.sc_outside.specs.Port.{Told, Takes, Puts, Moves}
 use Rattle.sc_outside.specs.Whole.{PutsPart}
 use Rattle.sc_rtpdump.specs.declared.fault.DumpFault.TheVariants.{Preamble, RecordHead, RecordLength, Truncated, Read, Memory}
 use Rattle.sc_rtpdump.specs.declared.thin.DropFault.{DropFault}
@@ -14,40 +14,48 @@ use Rattle.sc_rtpdump.specs.Capture.{entries_bytes, parts_of, reading_of}
 use Rattle.sc_rtpdump.specs.Thinned.{kept, rest_end, rest_text, thin_end, thin_text}
 use Rattle.sc_rtpdump.specs.Readings.{TakesSome, IsPartHead, IsHeadTooShort, IsPartBody, IsBelowRecord, GivesFront}
 
--- a record was taken, and written again unless it is lost
-pub record Copies (old new : Told) (lost : Bool) : Type 0 where
+-- a record was taken. Unless it is lost it is put behind the bytes that waited; a front of all that was written, and the rest waits
+pub record Copies (old new : Told) (lost : Bool) (held now : List ℕ) : Type 0 where
   pub entry : Entry
   pub fits : IsEntry entry
-  pub moves : Moves old new (entry_bytes entry) (entries_bytes (kept (lost ∷ []) (entry ∷ [])))
+  pub put : List ℕ
+  pub moves : Moves old new (entry_bytes entry) put
+  pub parts : held ++ entries_bytes (kept (lost ∷ []) (entry ∷ [])) ≡ put ++ now
 
--- a record that isn't lost was taken, and a front of it written that isn't the whole
-pub record CopiesPart (old new : Told) (lost : Bool) : Type 0 where
-  pub entry : Entry
-  pub fits : IsEntry entry
-  pub kept_one : lost ≡ false
+-- some bytes were taken, and then a front written of those that waited, that isn't the whole
+pub record WritesPart (old new : Told) (held : List ℕ) : Type 0 where
+  pub taken : List ℕ
   pub mid : Told
-  pub takes : Takes old mid (entry_bytes entry)
-  pub puts : PutsPart mid new (entry_bytes entry)
+  pub takes : Takes old mid taken
+  pub puts : PutsPart mid new held
 
--- what copying or leaving out the record of this number answers
-abbrev pub StepGives : ℕ → Bool → Told → Told → Result Unit DropFault → Type 0
-StepGives index lost old new (Ok done) = Copies old new lost
-StepGives index lost old new (Err (Fewer n)) = (n ≡ index) × Takes old new [] × IsAtEnd new.left
-StepGives index lost old new (Err (Dump (RecordHead i))) = (i ≡ index) × TakesSome old new IsPartHead × IsAtEnd new.left
-StepGives index lost old new (Err (Dump (RecordLength i))) = (i ≡ index) × TakesSome old new IsHeadTooShort
-StepGives index lost old new (Err (Dump (Truncated i))) = (i ≡ index) × TakesSome old new IsPartBody × IsAtEnd new.left
-StepGives index lost old new (Err (Dump Read)) = TakesSome old new IsBelowRecord × Rose old.read_faults new.read_faults
-StepGives index lost old new (Err Write) = CopiesPart old new lost
-StepGives index lost old new (Err More) = ⊥
-StepGives index lost old new (Err (Dump Preamble)) = ⊥
-StepGives index lost old new (Err (Dump Memory)) = ⊥
+-- all bytes that waited were written, after a moment of which P holds
+pub record Settles (new : Told) (held : List ℕ) (P : Told → Type 0) : Type 0 where
+  pub mid : Told
+  pub stood : P mid
+  pub puts : Puts mid new held
 
--- so many whole records were taken, and those written whose flag isn't set
-pub record Copied (flags : List Bool) (old new : Told) (n : ℕ) : Type 0 where
+-- what copying or leaving out the record of this number answers, where these bytes waited before, and those wait after `Ok`
+abbrev pub StepGives : ℕ → Bool → Told → Told → List ℕ → List ℕ → Result Unit DropFault → Type 0
+StepGives index lost old new held now (Ok done) = Copies old new lost held now
+StepGives index lost old new held now (Err (Fewer n)) = (n ≡ index) × Settles new held (λ mid. Takes old mid [] × IsAtEnd mid.left)
+StepGives index lost old new held now (Err (Dump (RecordHead i))) = (i ≡ index) × Settles new held (λ mid. TakesSome old mid IsPartHead × IsAtEnd mid.left)
+StepGives index lost old new held now (Err (Dump (RecordLength i))) = (i ≡ index) × Settles new held (λ mid. TakesSome old mid IsHeadTooShort)
+StepGives index lost old new held now (Err (Dump (Truncated i))) = (i ≡ index) × Settles new held (λ mid. TakesSome old mid IsPartBody × IsAtEnd mid.left)
+StepGives index lost old new held now (Err (Dump Read)) = Settles new held (λ mid. TakesSome old mid IsBelowRecord × Rose old.read_faults mid.read_faults)
+StepGives index lost old new held now (Err Write) = WritesPart old new held
+StepGives index lost old new held now (Err More) = ⊥
+StepGives index lost old new held now (Err (Dump Preamble)) = ⊥
+StepGives index lost old new held now (Err (Dump Memory)) = ⊥
+
+-- So many whole records were taken. Of those the ones whose flag isn't set were written, but for the bytes that wait.
+pub record Copied (flags : List Bool) (old new : Told) (n : ℕ) (held : List ℕ) : Type 0 where
   pub entries : List Entry
   pub fit : AllByRecursion IsEntry entries
   pub count : length entries ≡ n
-  pub moves : Moves old new (entries_bytes entries) (entries_bytes (kept (take n flags) entries))
+  pub put : List ℕ
+  pub moves : Moves old new (entries_bytes entries) put
+  pub parts : entries_bytes (kept (take n flags) entries) ≡ put ++ held
 
 -- the records and the tail that were left decided the answer, and the text that is due was given
 abbrev pub IsRestDecided : List Bool → Told → Told → Result Dropped DropFault → Type 0

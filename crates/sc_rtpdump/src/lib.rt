@@ -3,6 +3,7 @@
 
 mod fault;
 mod head;
+mod held;
 mod next;
 mod preamble;
 mod reading_laws;

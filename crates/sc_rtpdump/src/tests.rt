@@ -4,7 +4,7 @@ ghost use Rattle.std.specs.Prelude.{◌≤◌, ◌≡◌, IfOk, length};
 
 use super::*;
 use sc_channel::Flags;
-use sc_outside::{MemoryPort, NoMemory};
+use sc_outside::{MemoryPort, Move, NoMemory};
 use std::alloc::Global;
 use std::process::Abort;
 use std::test::Fail;
@@ -197,6 +197,48 @@ fn thins_captures(rt: HostRuntime) -> Result<(), Fail> {
         bytes.extend_from_slice(more)?;
         thins(&rt, rt.alloc(), &bytes, room, want, given)?;
     }
+    Ok(())
+}
+
+// The loss of none of three slots.
+fn none_of_three(alloc: Global) -> Result<Flags, NoMemory>
+    ensures { IfOk result (λ flags. length flags ≡ 3) }
+{
+    let mut flags = Flags::new(alloc);
+    flags.push(false)?;
+    flags.push(false)?;
+    flags.push(false)?;
+    Ok(flags)
+}
+
+#[test]
+fn writes_many_records_at_once(rt: HostRuntime) -> Result<(), Fail> {
+    // The longest record. Two of them wait together, and are written when the third comes.
+    let mut record = b"\xff\xff\xff\xf7\x00\x00\x00\x02"
+        .as_slice()
+        .to_vec(rt.alloc())?;
+    record.resize(65535, 0x5a)?;
+    let mut records = Vec::new(rt.alloc());
+    for _ in 0..3 {
+        records.extend_from_slice(&record)?;
+    }
+    let flags = none_of_three(rt.alloc())?;
+    let mut port = port_of(rt.alloc(), &records, 1 << 20, 1 << 20)?;
+    let done = Ok(Dropped {
+        records: 3,
+        lost: 0,
+    });
+    assert_eq!(rt; drop_records(rt.alloc(), &mut port, &flags), done);
+    let mut due = PREAMBLE.to_vec(rt.alloc())?;
+    due.extend_from_slice(&records)?;
+    assert!(rt; port.given() == due.as_slice());
+    let mut written = Vec::new(rt.alloc());
+    for step in port.journal() {
+        if let Move::Written(n) = step {
+            written.push(*n)?;
+        }
+    }
+    assert_eq!(rt; written.as_slice(), [44, 131070, 65535].as_slice());
     Ok(())
 }
 

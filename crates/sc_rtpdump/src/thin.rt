@@ -1,10 +1,11 @@
 //! Thinning: a capture without the records that are lost.
 
-ghost use Rattle.std.specs.Prelude.{◌≤◌, length};
+ghost use Rattle.std.specs.Prelude.{◌≡◌, ◌≤◌, [], length, vec_capacity};
 ghost use Rattle.sc_rtpdump.specs.Readings.{IsLater};
 ghost use Rattle.sc_rtpdump.specs.Thinning.{StepGives, RestGives, GivesRestFront, DropGives, GivesThinFront};
 
 use super::fault::DumpFault;
+use super::held::{ROOM, hold, settle};
 use super::next::next_record;
 use super::preamble::read_preamble;
 use super::record::DumpRecord;
@@ -47,47 +48,57 @@ impl fmt::Display for DropFault {
 
 impl Error for DropFault {}
 
-/// Copies the record of this number, or leaves it out where it is lost.
+/// Takes the record of this number, and puts it behind the bytes that wait unless it is lost. Those are written before a
+/// fault is answered.
 fn drop_one<P: Port>(
     port: &mut P,
     index: u32,
     lost: bool,
     rec: &mut DumpRecord,
+    held: &mut Vec<u8>,
 ) -> Result<(), DropFault>
-    ensures { StepGives index lost (P.told port.old) (P.told port.new) result }
+    requires { 131072 ≤ vec_capacity held.old }
+    ensures room { 131072 ≤ vec_capacity held.new }
+    ensures gives { StepGives index lost (P.told port.old) (P.told port.new) held.old.items held.new.items result }
 {
     match next_record(port, index, rec) {
         Ok(true) => {}
-        Ok(false) => return Err(DropFault::Fewer(index)),
-        Err(fault) => return Err(DropFault::Dump(fault)),
+        Ok(false) => return Err(settle(port, held.as_slice(), DropFault::Fewer(index))),
+        Err(fault) => return Err(settle(port, held.as_slice(), DropFault::Dump(fault))),
     }
     if lost {
         return Ok(());
     }
-    match write_whole(port, rec.bytes()) {
+    match hold(port, held, rec.bytes()) {
         Ok(()) => Ok(()),
         Err(Failed) => Err(DropFault::Write),
     }
 }
 
-/// Copies the records behind the preamble, without those whose flag is set.
+/// Copies the records behind the preamble, without those whose flag is set. Many of them are written at once.
 fn drop_rest<P: Port>(
     port: &mut P,
     flags: &[bool],
     rec: &mut DumpRecord,
+    held: &mut Vec<u8>,
 ) -> Result<Dropped, DropFault>
-    requires { length flags.now ≤ 4000000 }
+    requires flags { length flags.now ≤ 4000000 }
+    requires room { 131072 ≤ vec_capacity held.old }
+    requires empty { held.old.items ≡ [] }
     ensures gives { RestGives flags.now (P.told port.old) (P.told port.new) result }
     ensures front { GivesRestFront flags.now (P.told port.old) (P.told port.new) }
     ensures later { IsLater (P.told port.old) (P.told port.new) }
 {
     let mut lost = 0;
     for (i, flag) in flags.iter().enumerate() {
-        drop_one(port, i as u32, *flag, rec)?;
+        drop_one(port, i as u32, *flag, rec, held)?;
         if *flag {
             lost += 1;
         }
     }
+    let Ok(()) = write_whole(port, held.as_slice()) else {
+        return Err(DropFault::Write);
+    };
     let records = flags.len() as u32;
     match next_record(port, records, rec) {
         Ok(false) => Ok(Dropped { records, lost }),
@@ -96,8 +107,11 @@ fn drop_rest<P: Port>(
     }
 }
 
-/// Writes the preamble of a capture, and its records whose flag isn't set. It takes memory for a preamble and a record
-/// before it writes, and answers `Dump(Memory)` then.
+/// Writes the preamble of a capture, and its records whose flag isn't set. It takes memory for a preamble, a record and
+/// the bytes that wait before it writes, and answers `Dump(Memory)` then.
+///
+/// A record that is read waits until 131,072 bytes do or the call ends, and then they are written at once: whole records,
+/// in one call of the port where it takes them all.
 ///
 /// `More` comes exactly where a whole record follows that of the last flag, and `Fewer`, with the number of records,
 /// exactly where the input ends before; the faults of `Dump` as in [`read_preamble`] and [`next_record`], and `Write` only
@@ -117,12 +131,15 @@ pub fn drop_records<P: Port>(
         Ok(rec) => rec,
         Err(NoMemory) => return Err(DropFault::Dump(DumpFault::Memory)),
     };
+    let Ok(mut held) = Vec::with_capacity(alloc, ROOM) else {
+        return Err(DropFault::Dump(DumpFault::Memory));
+    };
     let preamble = match read_preamble(alloc, port) {
         Ok(preamble) => preamble,
         Err(fault) => return Err(DropFault::Dump(fault)),
     };
     match write_whole(port, preamble.bytes()) {
-        Ok(()) => drop_rest(port, flags.as_slice(), &mut rec),
+        Ok(()) => drop_rest(port, flags.as_slice(), &mut rec, &mut held),
         Err(Failed) => Err(DropFault::Write),
     }
 }

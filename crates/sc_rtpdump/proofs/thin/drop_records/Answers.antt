@@ -2,8 +2,11 @@ use Rattle.std.proofs.Common.{subst}
 use Rattle.sc_outside.specs.Port.{Puts}
 use Rattle.sc_outside.specs.Whole.{PutsPart}
 use Rattle.sc_rtpdump.specs.Thinning.{RestGives, GivesRestFront}
-use Rattle.sc_rtpdump.proofs.DropLaws.{drop-behind, front-behind, front-preamble, drop-preamble}
+use Rattle.sc_rtpdump.proofs.DropLaws.{front-none, drop-behind, front-behind, front-preamble, drop-preamble}
 use Rattle.sc_rtpdump.proofs.thin.drop_records.Goals as goal
+
+pub returns-in_default-clause-front : goal.returns-in_default-clause-front
+returns-in_default-clause-front g c = front-none c.args.flags.now (g.P.Port.told c.args.port.now)
 
 pub returns-in-Err-read_preamble-clause-gives : goal.returns-in-Err-read_preamble-clause-gives
 returns-in-Err-read_preamble-clause-gives g c = drop-preamble c.args.flags.now _ _ c.in-Err-read_preamble.fault c.in-Err-read_preamble.ensures
