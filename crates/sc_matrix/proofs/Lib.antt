@@ -8,6 +8,8 @@
 --   ProductLaws    apply-product (two matrices and a vector), product_assoc, apply-add_vectors, apply-scale_vector,
 --                  apply_zero_vector, elements-apply, IsMatrix-product, entry-product (row times column), and
 --                  combinations, which are linear: combination-add_vectors, combination-scale_vector, get_or-combination
+--   SumLaws        product-sum_left and product-sum_right: the product distributes over the sum of two matrices;
+--                  combination-of_sums: combinations are linear in their vectors too
 --   TransposeLaws  entry-transpose, transpose-transpose, transpose-product, row-transpose, column-transpose,
 --                  IsMatrix-transpose; same_entries: two matrices with the same sizes and entries are equal
 --   KernelLaws     kernel_rows (the kernel by the rows), kernel-swap_rows, kernel-scale_row, kernel-add_row
@@ -15,6 +17,7 @@
 -- The other files say how the storage and the loops of this crate keep up with these definitions.
 pub mod VectorLaws
 pub mod ProductLaws
+pub mod SumLaws
 pub mod TransposeLaws
 pub mod KernelLaws
 pub mod CutLaws

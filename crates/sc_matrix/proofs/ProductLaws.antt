@@ -52,7 +52,7 @@ module _ {A : Type 0} {IsElement : A → Type 0} {zero one : A} {add sub mul : A
       All-map IsElement (λ (r : List A). dot zero add mul r v) m.rows (λ k d h. element-dot laws _ v (hm.elements k d h) hv)
 
   -- ---- combinations are linear in their coefficients
-  add_vectors_four : (a b c d : List A) → length b ≡ length c → All IsElement a → All IsElement b → All IsElement c → All IsElement d → add_vectors add (add_vectors add a b) (add_vectors add c d) ≡ add_vectors add (add_vectors add a c) (add_vectors add b d)
+  pub add_vectors_four : (a b c d : List A) → length b ≡ length c → All IsElement a → All IsElement b → All IsElement c → All IsElement d → add_vectors add (add_vectors add a b) (add_vectors add c d) ≡ add_vectors add (add_vectors add a c) (add_vectors add b d)
   add_vectors_four a b c d e ha hb hc hd =
       add_vectors_assoc laws a b (add_vectors add c d) ha hb (elements-add_vectors laws c d hc hd)
       ∙ ap (add_vectors add a)

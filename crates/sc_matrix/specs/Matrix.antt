@@ -71,6 +71,10 @@ module _ {A : Type 0} where
   product zero add mul a b =
       record { cols = b.cols; rows = map (λ r. combination zero add mul b.cols r b.rows) a.rows }
 
+  -- the sum of two matrices: each row of a plus the row of b at its place
+  abbrev pub matrix_sum : (A → A → A) → Matrix A → Matrix A → Matrix A
+  matrix_sum add a b = record { cols = a.cols; rows = add_vectors (add_vectors add) a.rows b.rows }
+
   -- the rows a and b exchanged
   abbrev pub swap_rows : Matrix A → ℕ → ℕ → Matrix A
   swap_rows m a b = record m { rows = swap m.rows a b }
