@@ -1,4 +1,5 @@
-ghost use Rattle.std.specs.Prelude.{◌≡◌, ◌≤◌, length};
+ghost use Rattle.std.specs.Prelude.{◌≡◌, length, true, IfOk};
+ghost use Rattle.sc_field.specs.Scale.{scaled_sum};
 
 use crate::bytes::patterned;
 use sc_field::{Field, Gf256, Multiplier, scale_add};
@@ -12,20 +13,24 @@ const LENGTHS: [usize; 9] = [1, 15, 16, 20, 31, 148, 512, 1472, 65503];
 const COEFFICIENTS: [u8; 6] = [0, 1, 2, 29, 142, 255];
 
 /// Adds `c` times `src` to `dst`, a byte at a time.
-fn add_by_act(dst: &mut [u8], c: Gf256, src: &[u8])
+fn add_by_act<F: Field>(dst: &mut [u8], c: F, src: &[u8])
     requires { length src.now ≡ length dst.old }
+    ensures { dst.new ≡ scaled_sum (F.act c) dst.old src.now }
 {
     for i in 0..dst.len() {
         dst[i] ^= c.act(src[i]);
     }
 }
 
-/// Whether `scale_add`, its prepared form and the loop over bytes write the same, at this coefficient and length.
-fn agrees(alloc: Global, c: Gf256, n: usize) -> Result<bool, AllocError> {
+/// Whether `scale_add`, its prepared form and the loop over bytes write the same, at this coefficient and length. It is
+/// proved that they do; run, it shows that of the program that was built.
+fn agrees(alloc: Global, c: Gf256, n: usize) -> Result<bool, AllocError>
+    ensures { IfOk result (λ same. same ≡ true) }
+{
     let src = patterned(alloc, n, 11)?;
     let mut plain = patterned(alloc, n, 200)?;
-    let mut prepared = patterned(alloc, n, 200)?;
-    let mut by_act = patterned(alloc, n, 200)?;
+    let mut prepared = plain.to_vec(alloc)?;
+    let mut by_act = plain.to_vec(alloc)?;
     scale_add(&mut plain, c, &src);
     Multiplier::new(c).scale_add(&mut prepared, &src);
     add_by_act(&mut by_act, c, &src);
