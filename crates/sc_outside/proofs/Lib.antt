@@ -1,3 +1,4 @@
+pub mod EndsLaws
 pub mod FaultsLaws
 pub mod JournalLaws
 pub mod MemoryLaws

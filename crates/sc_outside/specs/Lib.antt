@@ -4,3 +4,4 @@ pub mod Memory
 pub mod Port
 pub mod Sink
 pub mod Whole
+pub mod Ends
