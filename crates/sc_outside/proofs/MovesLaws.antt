@@ -3,7 +3,7 @@ use Rattle.std.proofs.Common.{◌≡◌, ℕ, ◌≤◌, List, [], ◌++◌, len
 use Rattle.std.specs.Io.KnownBytes.{Consumes, Appends}
 use Rattle.std.proofs.KnownBytes.{Consumes-nil, Appends-nil, Appends-trans, Consumes-trans}
 use Rattle.sc_outside.specs.Port.{Told, MovesIn, MovesOut, IsUntouched, ReadFails, WriteFails, Moves, Takes, Puts}
-use Rattle.sc_outside.proofs.JournalLaws.{Logs-none, Logs-read, Logs-written, Logs-trans}
+use Rattle.sc_outside.proofs.JournalSteps.{Logs-none, Logs-read, Logs-written, Logs-trans}
 
 same_left : (a b : Option (List ℕ)) → b ≡ a → Consumes a b []
 same_left a b e = subst (λ x. Consumes a x []) (sym e) (Consumes-nil a)
@@ -37,16 +37,24 @@ Moves-trans a b c t u p q x y = record {
 }
 
 pub Takes-none : (a : Told) → Takes a a []
-Takes-none a = record { moves = Moves-none a; write_faults = refl }
+Takes-none a = record { moves = Moves-none a; given = refl; write_faults = refl }
 
 pub Takes-trans : (a b c : Told) (t u : List ℕ) → Takes a b t → Takes b c u → Takes a c (t ++ u)
-Takes-trans a b c t u x y = record { moves = Moves-trans a b c t u [] [] x.moves y.moves; write_faults = y.write_faults ∙ x.write_faults }
+Takes-trans a b c t u x y = record {
+  moves = Moves-trans a b c t u [] [] x.moves y.moves;
+  given = y.given ∙ x.given;
+  write_faults = y.write_faults ∙ x.write_faults;
+}
 
 pub Puts-none : (a : Told) → Puts a a []
-Puts-none a = record { moves = Moves-none a; read_faults = refl }
+Puts-none a = record { moves = Moves-none a; left = refl; read_faults = refl }
 
 pub Puts-trans : (a b c : Told) (p q : List ℕ) → Puts a b p → Puts b c q → Puts a c (p ++ q)
-Puts-trans a b c p q x y = record { moves = Moves-trans a b c [] [] p q x.moves y.moves; read_faults = y.read_faults ∙ x.read_faults }
+Puts-trans a b c p q x y = record {
+  moves = Moves-trans a b c [] [] p q x.moves y.moves;
+  left = y.left ∙ x.left;
+  read_faults = y.read_faults ∙ x.read_faults;
+}
 
 -- one read
 pub Takes-one : (a b : Told) (n : ℕ) (buf : List ℕ) → MovesIn a b n buf → Takes a b (take n buf)
@@ -57,9 +65,10 @@ Takes-one a b n buf h =
         left = h.left;
         given = same_given _ _ h.given;
         journal = rw size (Logs-read _ _ n h.journal);
-        read_faults = h.read_faults;
+        read_faults = omega (arith, h.read_faults);
         write_faults = omega (arith, h.write_faults);
       };
+      given = h.given;
       write_faults = h.write_faults;
     }
 
@@ -73,8 +82,9 @@ Puts-one a b n piece h =
         given = h.given;
         journal = rw size (Logs-written _ _ n h.journal);
         read_faults = omega (arith, h.read_faults);
-        write_faults = h.write_faults;
+        write_faults = omega (arith, h.write_faults);
       };
+      left = h.left;
       read_faults = h.read_faults;
     }
 
@@ -82,6 +92,7 @@ Puts-one a b n piece h =
 pub Takes-failed : (a b : Told) → ReadFails a b → Takes a b []
 Takes-failed a b h = record {
   moves = Moves-untouched a b h.untouched (omega (arith, h.rose)) (omega (arith, h.write_faults));
+  given = h.untouched.given;
   write_faults = h.write_faults;
 }
 
@@ -89,5 +100,6 @@ Takes-failed a b h = record {
 pub Puts-failed : (a b : Told) → WriteFails a b → Puts a b []
 Puts-failed a b h = record {
   moves = Moves-untouched a b h.untouched (omega (arith, h.read_faults)) (omega (arith, h.rose));
+  left = h.untouched.left;
   read_faults = h.read_faults;
 }

@@ -23,7 +23,7 @@ pub record MovesIn (old new : Told) (n : ℕ) (buf : List ℕ) : Type 0 where
   pub end : n ≡ 0 → IsAtEnd new.left
   pub given : new.given ≡ old.given
   pub journal : LogsOne old.journal new.journal (Read n)
-  pub read_faults : old.read_faults ≤ new.read_faults
+  pub read_faults : new.read_faults ≡ old.read_faults
   pub write_faults : new.write_faults ≡ old.write_faults
 
 -- A write appended the first n bytes of a piece to what is given, at least one.
@@ -33,7 +33,7 @@ pub record MovesOut (old new : Told) (n : ℕ) (piece : List ℕ) : Type 0 where
   pub given : Appends old.given new.given (take n piece)
   pub left : new.left ≡ old.left
   pub journal : LogsOne old.journal new.journal (Written n)
-  pub write_faults : old.write_faults ≤ new.write_faults
+  pub write_faults : new.write_faults ≡ old.write_faults
   pub read_faults : new.read_faults ≡ old.read_faults
 
 -- A call failed: nothing that is told changed.
@@ -75,9 +75,11 @@ pub record Moves (old new : Told) (taken put : List ℕ) : Type 0 where
 -- Reads took these bytes. Nothing was written, and no write failed.
 pub record Takes (old new : Told) (taken : List ℕ) : Type 0 where
   pub moves : Moves old new taken []
+  pub given : new.given ≡ old.given
   pub write_faults : new.write_faults ≡ old.write_faults
 
 -- Writes gave these bytes. Nothing was read, and no read failed.
 pub record Puts (old new : Told) (put : List ℕ) : Type 0 where
   pub moves : Moves old new [] put
+  pub left : new.left ≡ old.left
   pub read_faults : new.read_faults ≡ old.read_faults

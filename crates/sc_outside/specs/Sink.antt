@@ -14,7 +14,7 @@ pub record SinkGrows (old new : SinkTold) (n : ℕ) (piece : List ℕ) : Type 0 
   pub some : 0 < n
   pub bound : n ≤ length piece
   pub given : Appends old.given new.given (take n piece)
-  pub faults : old.faults ≤ new.faults
+  pub faults : new.faults ≡ old.faults
 
 -- A write failed, and that was counted.
 pub record SinkFails (old new : SinkTold) : Type 0 where

@@ -108,8 +108,8 @@ impl MemoryPort {
     }
 }
 
-/// Copies the first `n` bytes of `from` over the front of `buf`.
-fn copy_front(from: &[u8], buf: &mut [u8], n: usize)
+/// Copies the first `n` bytes of `from` over the first `n` of `buf`.
+fn copy_first(from: &[u8], buf: &mut [u8], n: usize)
     requires source { n ≤ length from.now }
     requires target { n ≤ length buf.old }
     ensures { buf.new ≡ take n from.now ++ drop n buf.old }
@@ -119,9 +119,9 @@ fn copy_front(from: &[u8], buf: &mut [u8], n: usize)
 
 impl MemoryPort {
     /// A read, as the port's state decides it.
-    fn read_front(&mut self, buf: &mut [u8]) -> Result<usize, Failed>
+    fn read_once(&mut self, buf: &mut [u8]) -> Result<usize, Failed>
         ensures exact { ReadsAs self.old self.new (length buf.old) result }
-        ensures front { IfOk result (λ n. take n buf.new ≡ take n self.old.left) }
+        ensures prefix { IfOk result (λ n. take n buf.new ≡ take n self.old.left) }
         ensures known { IsMemory self.old }
     {
         let refused = self.plan.is_due() || self.plan.calls >= self.moves;
@@ -132,14 +132,14 @@ impl MemoryPort {
         }
         let left = &self.input[self.at..];
         let n = self.piece.min(buf.len().min(left.len()));
-        copy_front(left, buf, n);
+        copy_first(left, buf, n);
         self.at += n;
         self.journal.push(Move::Read(n)).unwrap();
         Ok(n)
     }
 
     /// A write, as the port's state decides it.
-    fn write_front(&mut self, piece: &[u8]) -> Result<usize, Failed>
+    fn write_once(&mut self, piece: &[u8]) -> Result<usize, Failed>
         ensures exact { WritesAs self.old self.new piece.now result }
         ensures known { IsMemory self.old }
     {
@@ -163,21 +163,26 @@ impl Port for MemoryPort {
 
     ghost told = { told_by };
 
-    #[tactic(auto, using(crate::proofs::MemoryLaws::memory_reads))]
+    #[tactic(auto, using(crate::proofs::MemorySteps::memory_reads))]
     fn read(&mut self, buf: &mut [u8]) -> Result<usize, Failed>
         requires { 0 < length buf.old }
         ensures gives { ReadGives (told_by self.old) (told_by self.new) buf.new result }
         ensures exact { ReadsAs self.old self.new (length buf.old) result }
     {
-        self.read_front(buf)
+        self.read_once(buf)
     }
 
-    #[tactic(auto, using(crate::proofs::MemoryLaws::memory_writes))]
+    #[tactic(auto, using(crate::proofs::MemorySteps::memory_writes))]
     fn write(&mut self, piece: &[u8]) -> Result<usize, Failed>
         requires { 0 < length piece.now }
         ensures gives { WriteGives (told_by self.old) (told_by self.new) piece.now result }
         ensures exact { WritesAs self.old self.new piece.now result }
     {
-        self.write_front(piece)
+        self.write_once(piece)
+    }
+
+    /// What is left.
+    fn ready(&self) -> usize {
+        self.input.len() - self.at
     }
 }

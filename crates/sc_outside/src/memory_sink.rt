@@ -66,7 +66,7 @@ impl MemorySink {
     }
 
     /// A write, as the sink's state decides it.
-    fn write_front(&mut self, piece: &[u8]) -> Result<usize, Failed>
+    fn write_once(&mut self, piece: &[u8]) -> Result<usize, Failed>
         ensures exact { SinksAs self.old self.new piece.now result }
         ensures known { IsMemorySink self.old }
     {
@@ -87,12 +87,12 @@ impl Sink for MemorySink {
 
     ghost told = { told_by_sink };
 
-    #[tactic(auto, using(crate::proofs::MemoryLaws::memory_sinks))]
+    #[tactic(auto, using(crate::proofs::MemorySteps::memory_sinks))]
     fn write(&mut self, piece: &[u8]) -> Result<usize, Failed>
         requires { 0 < length piece.now }
         ensures gives { SinkGives (told_by_sink self.old) (told_by_sink self.new) piece.now result }
         ensures exact { SinksAs self.old self.new piece.now result }
     {
-        self.write_front(piece)
+        self.write_once(piece)
     }
 }

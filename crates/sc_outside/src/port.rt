@@ -12,16 +12,22 @@ pub trait Port {
     /// What it tells: the bytes left to be read, the bytes given, its journal and its two counts of faults.
     ghost told: { Self → Told };
 
-    /// Moves at least one byte, and at most as many as `buf` has room for, from the front of what is left into the
-    /// front of `buf`, and answers their number. It answers 0 only where nothing is left, and `Failed` only where the
+    /// Moves at least one byte, and at most as many as `buf` has room for, from the start of what is left to the
+    /// start of `buf`, and answers their number. It answers 0 only where nothing is left, and `Failed` only where the
     /// count of read faults rose; then nothing was moved.
     fn read(&mut self, buf: &mut [u8]) -> Result<usize, Failed>
         requires { 0 < length buf.old }
         ensures { ReadGives (told self.old) (told self.new) buf.new result };
 
-    /// Appends a front of `piece` that isn't empty to what is given, and answers its length. It answers `Failed` only
+    /// Appends a prefix of `piece` that isn't empty to what is given, and answers its length. It answers `Failed` only
     /// where the count of write faults rose; then nothing was appended.
     fn write(&mut self, piece: &[u8]) -> Result<usize, Failed>
         requires { 0 < length piece.now }
         ensures { WriteGives (told self.old) (told self.new) piece.now result };
+
+    /// How many bytes a read would give without waiting, as far as the port knows. It is a hint for speed alone, and
+    /// promises nothing.
+    fn ready(&self) -> usize {
+        0
+    }
 }

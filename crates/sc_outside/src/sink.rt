@@ -9,7 +9,7 @@ pub trait Sink {
     /// What it tells: the bytes given and its count of faults, which never falls.
     ghost told: { Self → SinkTold };
 
-    /// Appends a front of `piece` that isn't empty, and answers its length. It answers `Failed` only where the count
+    /// Appends a prefix of `piece` that isn't empty, and answers its length. It answers `Failed` only where the count
     /// of faults rose; then nothing was appended.
     fn write(&mut self, piece: &[u8]) -> Result<usize, Failed>
         requires { 0 < length piece.now }

@@ -96,6 +96,11 @@ impl Port for StdPort {
         }
     }
 
+    /// What the buffer of reads holds.
+    fn ready(&self) -> usize {
+        self.input.buffer().len()
+    }
+
     fn write(&mut self, piece: &[u8]) -> Result<usize, Failed> {
         match write_some(&mut self.output, piece) {
             Some(n) => Ok(n),

@@ -99,6 +99,10 @@ fn a_sink_in_memory(rt: HostRuntime) -> Result<(), Fail> {
     assert_eq!(rt; put(&mut sink, b"cde"), Ok(2));
     assert_eq!(rt; put(&mut sink, b"e"), Err(Failed));
     assert_eq!(rt; sink.given(), b"abcd".as_slice());
+    let mut notes = MemorySink::new(rt.alloc(), 4, Vec::new(rt.alloc()))?;
+    assert_eq!(rt; tell_whole(&mut notes, b"abc"), Ok(()));
+    assert_eq!(rt; tell_whole(&mut notes, b"de"), Err(Failed));
+    assert_eq!(rt; notes.given(), b"abcd".as_slice());
     let mut full = MemorySink::new(rt.alloc(), 0, Vec::new(rt.alloc()))?;
     assert_eq!(rt; put(&mut full, b"a"), Err(Failed));
     assert!(rt; full.given().is_empty());

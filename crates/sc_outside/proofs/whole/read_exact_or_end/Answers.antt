@@ -3,7 +3,7 @@ use Rattle.std.proofs.lemmas.Result.{err_from_is_err_and}
 use Rattle.sc_outside.specs.Port.{Takes}
 use Rattle.sc_outside.proofs.FaultsLaws.{Rose-earlier}
 use Rattle.sc_outside.proofs.MovesLaws.{Takes-trans, Takes-one, Takes-failed}
-use Rattle.sc_outside.proofs.Parts.{take-put_part, length-put_part}
+use Rattle.sc_outside.proofs.PartSteps.{take-put_part, length-put_part}
 use Rattle.sc_outside.proofs.whole.read_exact_or_end.Goals as goal
 use borrow.Rule.Slice.PartMut.{put_mid}
 
@@ -18,6 +18,7 @@ loop-filled-preserved g c =
     record {
       bound = omega (arith, length-put_part filled _ c.loop-filled.buf c.read.new.buf c.read.auto.buf, step.bound);
       takes = subst (Takes _ _) (sym joined) (Takes-trans _ _ _ _ _ c.loop-filled.invariant.takes (Takes-one _ _ _ _ step));
+      read_faults = step.read_faults ∙ c.loop-filled.invariant.read_faults;
     }
 
 pub returns-in_err-taken-clause-err : goal.returns-in_err-taken-clause-err
@@ -48,4 +49,5 @@ returns-then-taken-eq0-clause-ok g c =
       bound = omega (arith, length-put_part filled _ c.loop-filled.buf c.read.new.buf c.read.auto.buf);
       takes = subst (Takes _ _) (sym joined ∙ ap (λ n. take n whole) same) (Takes-trans _ _ _ _ _ c.loop-filled.invariant.takes (Takes-one _ _ _ _ step));
       end = λ _. step.end c.if-taken-eq0.true;
+      read_faults = step.read_faults ∙ c.loop-filled.invariant.read_faults;
     }

@@ -1,7 +1,7 @@
 use Rattle.std.proofs.Common.{◌-◌, ◌++◌, length, take, drop, sym, ap, ◌∙◌, append_assoc}
 use Rattle.std.proofs.lemmas.List.{take-append-drop}
 use Rattle.sc_outside.proofs.MovesLaws.{Puts-trans, Puts-one}
-use Rattle.sc_outside.proofs.Parts.{take-rest}
+use Rattle.sc_outside.proofs.PartSteps.{take-rest}
 use Rattle.sc_outside.proofs.whole.write_whole.Goals as goal
 
 pub loop-rest-preserved : goal.loop-rest-preserved
@@ -16,4 +16,5 @@ loop-rest-preserved g c =
           ∙ ap (λ l. so_far.put ++ l) (sym (take-append-drop n rest) ∙ ap (λ l. take n rest ++ l) (sym (take-rest n rest)))
           ∙ sym (append_assoc so_far.put (take n rest) (take (length rest - n) (drop n rest)));
       puts = Puts-trans _ _ _ _ _ so_far.puts (Puts-one _ _ _ _ step);
+      write_faults = step.write_faults ∙ so_far.write_faults;
     }

@@ -25,19 +25,18 @@ room_left a room used h = leb-false room used (second_false a (nat_le room used)
 
 pub ReadGives-memory : (old new : MemoryState) (buf : List ℕ) (r : Result ℕ Failed) → 0 < length buf → IsMemory old
     → ReadsAs old new (length buf) r → IfOk r (λ n. take n buf ≡ take n old.left) → ReadGives (told_by old) (told_by new) buf r
-ReadGives-memory old new buf (Ok n) room known h front =
+ReadGives-memory old new buf (Ok n) room known h prefix =
     let left : new.left ≡ drop n old.left = ap (λ s. s.left) h.2 in
-    let faults : new.read_faults ≡ old.read_faults = ap (λ s. s.read_faults) h.2 in
     record {
       bound = omega (arith, h.1);
-      left = sym (take-append-drop n old.left) ∙ ap (λ l. l ++ drop n old.left) (sym front) ∙ ap (λ l. take n buf ++ l) (sym left);
+      left = sym (take-append-drop n old.left) ∙ ap (λ l. l ++ drop n old.left) (sym prefix) ∙ ap (λ l. take n buf ++ l) (sym left);
       end = λ none. left ∙ ap (λ m. drop m old.left) none ∙ nil_of_length old.left (omega (arith, h.1, none, known.some));
       given = ap (λ s. Some s.given) h.2;
       journal = ap (λ s. s.journal) h.2;
-      read_faults = omega (arith, faults);
+      read_faults = ap (λ s. s.read_faults) h.2;
       write_faults = ap (λ s. s.write_faults) h.2;
     }
-ReadGives-memory old new buf (Err e) room known h front = record {
+ReadGives-memory old new buf (Err e) room known h prefix = record {
   untouched = record { left = ap (λ s. Some s.left) h.1; given = ap (λ s. Some s.given) h.1; journal = ap (λ s. Some s.journal) h.1 };
   rose = Rose-counted _ _ known.read_faults (ap (λ s. s.read_faults) h.1);
   write_faults = ap (λ s. s.write_faults) h.1;
@@ -47,14 +46,13 @@ pub WriteGives-memory : (old new : MemoryState) (piece : List ℕ) (r : Result �
     → WritesAs old new piece r → WriteGives (told_by old) (told_by new) piece r
 WriteGives-memory old new piece (Ok n) some known h =
     let free : length old.given < old.room = room_left (is_refused old) old.room (length old.given) h.0 in
-    let faults : new.write_faults ≡ old.write_faults = ap (λ s. s.write_faults) h.2 in
     record {
       some = omega (arith, h.1, free, known.some);
       bound = omega (arith, h.1);
       given = ap (λ s. s.given) h.2;
       left = ap (λ s. Some s.left) h.2;
       journal = ap (λ s. s.journal) h.2;
-      write_faults = omega (arith, faults);
+      write_faults = ap (λ s. s.write_faults) h.2;
       read_faults = ap (λ s. s.read_faults) h.2;
     }
 WriteGives-memory old new piece (Err e) some known h = record {
@@ -67,8 +65,7 @@ pub SinkGives-memory : (old new : SinkState) (piece : List ℕ) (r : Result ℕ 
     → SinksAs old new piece r → SinkGives (told_by_sink old) (told_by_sink new) piece r
 SinkGives-memory old new piece (Ok n) some known h =
     let free : length old.given < old.room = room_left _ old.room (length old.given) h.0 in
-    let faults : new.faults ≡ old.faults = ap (λ s. s.faults) h.2 in
-    record { some = omega (arith, h.1, free); bound = omega (arith, h.1); given = ap (λ s. s.given) h.2; faults = omega (arith, faults) }
+    record { some = omega (arith, h.1, free); bound = omega (arith, h.1); given = ap (λ s. s.given) h.2; faults = ap (λ s. s.faults) h.2 }
 SinkGives-memory old new piece (Err e) some known h = record {
   given = ap (λ s. Some s.given) h.1;
   rose = Rose-counted _ _ known.faults (ap (λ s. s.faults) h.1);

@@ -4,12 +4,12 @@ use Rattle.std.proofs.lemmas.List.{take-append-le}
 use Rattle.std.proofs.Math.Seq.{take-append-add}
 use borrow.Rule.Slice.PartMut.{put_mid, post_of, take_put, same_len_mid, mid_of}
 
--- the front of the whole is what stood before the part, and then the front of the part
+-- the whole begins with what stood before the part, and then with the start of the part
 pub take-put_part : (f t k : ℕ) (buf part : List ℕ) → f ≤ length buf → t ≤ length part → take (f + t) (put_mid f k buf part) ≡ take f buf ++ take t part
 take-put_part f t k buf part within fits =
-    let front : length (take f buf) ≡ f = length-take-le f buf within in
+    let before : length (take f buf) ≡ f = length-take-le f buf within in
     let after = post_of f k buf in
-    ap (λ n. take (n + t) (take f buf ++ (part ++ after))) (sym front)
+    ap (λ n. take (n + t) (take f buf ++ (part ++ after))) (sym before)
     ∙ take-append-add (take f buf) (part ++ after) t
     ∙ ap (λ l. take f buf ++ l) (take-append-le t part after fits)
 
