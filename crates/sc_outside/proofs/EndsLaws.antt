@@ -97,9 +97,9 @@ module _ {A B : Type 0} (f : A → B) (job : Job A) (old new : Told) (answer : A
 
   caused_as : (taken put : List ℕ) (cause : Cause) → IsCaused job old new taken put answer cause → IsCaused (told_as f job) old new taken put (f answer) cause
   caused_as taken put input h = decided_as taken put h
-  caused_as taken put read h = (ap f h.0, h.1, h.2)
+  caused_as taken put read h = (ap f h.0, h.1, h.2, h.3)
   caused_as taken put write h = (ap f h.0, h.1, h.2)
-  caused_as taken put memory h = (ap f h.0, h.1)
+  caused_as taken put memory h = (ap f h.0, h.1, h.2)
 
   pub Ends-told_as : Ends job old new answer → Ends (told_as f job) old new (f answer)
   Ends-told_as e = record {
@@ -120,8 +120,8 @@ some_left None = ([], tt)
 some_left (Some xs) = (xs, refl)
 
 -- a call that left its port alone, answered at once and gave nothing
-pub Ends-at_once : {A : Type 0} (answer r w m : A) (told : Told) → Ends (at_once (only answer) [] r w m) told told answer
-Ends-at_once answer r w m told =
+pub Ends-at_once : {A : Type 0} (answer r w m : A) (allocates : Bool) (told : Told) → Ends (at_once (only answer) allocates [] r w m) told told answer
+Ends-at_once answer r w m allocates told =
     let there = some_left told.left in
     record {
       cause = input;
@@ -132,16 +132,16 @@ Ends-at_once answer r w m told =
       caused = record { rest = there.0; left = there.1; answered = refl; given = refl; ended = λ no. absurd (cc) };
     }
 
-pub IsJob-at_once : {A : Type 0} (due : Due A) (spared : List ℕ) (r w m : A) → IsPrefix spared due.text → IsJob (at_once due spared r w m)
-IsJob-at_once due spared r w m h = record { grows = λ taken rest. IsPrefix-refl due.text; spares = λ taken rest. h }
+pub IsJob-at_once : {A : Type 0} (due : Due A) (allocates : Bool) (spared : List ℕ) (r w m : A) → IsPrefix spared due.text → IsJob (at_once due allocates spared r w m)
+IsJob-at_once due allocates spared r w m h = record { grows = λ taken rest. IsPrefix-refl due.text; spares = λ taken rest. h }
 
 -- want of memory before the port was touched
-pub Ends-no_memory : {A : Type 0} (job : Job A) (told : Told) → Ends job told told job.no_memory
-Ends-no_memory job told = record {
+pub Ends-no_memory : {A : Type 0} (job : Job A) (told : Told) → job.allocates ≡ true → Ends job told told job.no_memory
+Ends-no_memory job told takes = record {
   cause = memory;
   taken = [];
   put = [];
   moves = Moves-none told;
   unread = λ _. refl;
-  caused = (refl, IsPrefix-nil (job.before_memory []));
+  caused = (refl, IsPrefix-nil (job.before_memory []), takes);
 }

@@ -13,8 +13,9 @@ pub record Due (A : Type 0) : Type 0 where
 
 -- What a call owes.
 pub record Job (A : Type 0) : Type 0 where
-  -- whether it reads at all
+  -- whether it reads at all, and whether it takes memory
   pub reads : Bool
+  pub allocates : Bool
   -- the bytes that are due once these were taken, whatever follows them
   pub so_far : List ℕ → List ℕ
   -- what is due where this is the whole input
@@ -67,14 +68,15 @@ pub data Cause : Type 0 where
   write : Cause
   memory : Cause
 
--- What each of them owes. After a failed read exactly what is due so far was put, and after a failed write less.
+-- What each of them owes. After a failed read exactly what is due so far was put, and after a failed write less. A call
+-- that doesn't read has no failed read, and one that takes no memory no want of it.
 abbrev pub IsCaused : {A : Type 0} → Job A → Told → Told → List ℕ → List ℕ → A → Cause → Type 0
 IsCaused job old new taken put answer input = IsDecided job new taken put answer
 IsCaused job old new taken put answer read =
-    (answer ≡ job.read_failed) × Rose old.read_faults new.read_faults × (put ≡ job.so_far taken)
+    (answer ≡ job.read_failed) × Rose old.read_faults new.read_faults × (put ≡ job.so_far taken) × (job.reads ≡ true)
 IsCaused job old new taken put answer write =
     (answer ≡ job.write_failed) × Rose old.write_faults new.write_faults × IsShort job new taken put
-IsCaused job old new taken put answer memory = (answer ≡ job.no_memory) × IsPrefix put (job.before_memory taken)
+IsCaused job old new taken put answer memory = (answer ≡ job.no_memory) × IsPrefix put (job.before_memory taken) × (job.allocates ≡ true)
 
 -- How a call ended: these bytes were taken and those put, and someone decided the answer.
 pub record Ends {A : Type 0} (job : Job A) (old new : Told) (answer : A) : Type 0 where
@@ -89,6 +91,7 @@ pub record Ends {A : Type 0} (job : Job A) (old new : Told) (answer : A) : Type 
 abbrev pub told_as : {A B : Type 0} → (A → B) → Job A → Job B
 told_as f job = record {
   reads = job.reads;
+  allocates = job.allocates;
   so_far = job.so_far;
   whole = λ input.
       record { answer = f (job.whole input).answer; text = (job.whole input).text; at_end = (job.whole input).at_end };
@@ -102,11 +105,12 @@ told_as f job = record {
 abbrev pub only : {A : Type 0} → A → Due A
 only answer = record { answer = answer; text = []; at_end = false }
 
--- the job of a call that leaves the input unread: this is due whatever it is. At most so much is given where memory runs
--- out.
-abbrev pub at_once : {A : Type 0} → Due A → List ℕ → A → A → A → Job A
-at_once due before_memory read_failed write_failed no_memory = record {
+-- the job of a call that leaves the input unread: this is due whatever it is. It may take memory, and then at most so much
+-- is given where that runs out.
+abbrev pub at_once : {A : Type 0} → Due A → Bool → List ℕ → A → A → A → Job A
+at_once due allocates before_memory read_failed write_failed no_memory = record {
   reads = false;
+  allocates = allocates;
   so_far = λ _. due.text;
   whole = λ _. due;
   before_memory = λ _. before_memory;

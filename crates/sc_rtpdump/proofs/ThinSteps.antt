@@ -456,7 +456,7 @@ read_end flags a d pre n tail w below rose = record {
   put = pre ++ w.put;
   moves = w.moves;
   unread = λ no. absurd (cc);
-  caused = (refl, rose, ap (λ l. pre ++ l) (sym (w.parts ∙ append-nil w.put)) ∙ sym (text_there flags pre tail w.records w.is w.fit (below_none tail below)));
+  caused = (refl, rose, ap (λ l. pre ++ l) (sym (w.parts ∙ append-nil w.put)) ∙ sym (text_there flags pre tail w.records w.is w.fit (below_none tail below)), refl);
 }
 
 fault_end : (flags : List Bool) (a c d : Told) (pre : List ℕ) (n : ℕ) (tail : List ℕ) (fault : DumpFault) → (w : Whole flags a d pre n tail []) → n ≤ length flags → a.read_faults ≤ c.read_faults
@@ -587,7 +587,7 @@ preamble_end flags a b Read h = record {
   put = [];
   moves = h.0.takes.moves;
   unread = λ no. absurd (cc);
-  caused = (refl, h.1, sym (ap (thin_text flags) (reading_of-none h.0.taken h.0.holds)));
+  caused = (refl, h.1, sym (ap (thin_text flags) (reading_of-none h.0.taken h.0.holds)), refl);
 }
 preamble_end flags a b Memory h = record {
   cause = memory;
@@ -595,7 +595,7 @@ preamble_end flags a b Memory h = record {
   put = [];
   moves = h.moves;
   unread = λ no. refl;
-  caused = (refl, IsPrefix-nil []);
+  caused = (refl, IsPrefix-nil [], refl);
 }
 preamble_end flags a b (RecordHead i) h = absurd h
 preamble_end flags a b (RecordLength i) h = absurd h

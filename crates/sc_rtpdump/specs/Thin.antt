@@ -65,6 +65,7 @@ thinned flags preamble records = preamble ++ records_bytes (kept flags records)
 abbrev pub thinning : List Bool → Job (Result Dropped DropFault)
 thinning flags = record {
   reads = true;
+  allocates = true;
   so_far = λ taken. thin_text flags (reading_of taken);
   whole = λ input. let reading = reading_of input in record {
     answer = thin_end flags reading;

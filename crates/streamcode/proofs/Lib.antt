@@ -1,7 +1,6 @@
 pub mod Forms
 pub mod Numbers
 pub mod OneForm
-pub mod Windows
 pub mod LossWord
-pub mod RunLaws
+pub mod JobLaws
 pub mod LoseLaws

@@ -7,24 +7,13 @@ use Rattle.std.proofs.lemmas.Slice.Eq.{bytes_eq-Decides}
 use Rattle.std.specs.Fmt.{decimal}
 use Rattle.std.specs.List.{list_all}
 use Rattle.std.specs.Str.{bytes_eq}
-use Rattle.sc_channel.specs.Channel.{ChannelNumbers, IsChannel}
-use Rattle.streamcode.specs.Words.{Command, lose_word, number_of, is_channel, channel_at, channel_of, is_flag, is_lost, is_loss_word, flags_of, lose_at, lose_of, command_of}
+use Rattle.sc_channel.specs.Channel.{ChannelNumbers, IsChannel, is_channel}
+use Rattle.sc_channel.proofs.ChannelLaws.{is_channel-to, is_channel-from}
+use Rattle.sc_channel.specs.declared.flags.TheConstants.{MAX_FLAGS}
+use Rattle.streamcode.specs.Words.{Command, lose_word, number_of, channel_at, channel_of, is_flag, is_lost, is_loss_word, flags_of, lose_at, lose_of, command_of}
 use Rattle.streamcode.specs.Forms.{character_of, words_of, IsWithinLimits}
 use Rattle.streamcode.proofs.Forms.{flags_of-word, flags_of-none}
 use Rattle.streamcode.proofs.Numbers.{number_of-to_decimal, number_of-decimal}
-
--- the test on numbers is the definition of a channel
-pub is_channel-to : (c : ChannelNumbers) → is_channel c ≡ true → IsChannel c
-unfolding is_channel
-is_channel-to c is = record {
-  ordered = record { some_loss = grind (arith, nat_tests); count_in_span = grind (arith, nat_tests); span_in_deadline = grind (arith, nat_tests); deadline_in_window = grind (arith, nat_tests) };
-  window_limit = grind (arith, nat_tests);
-  deadline_limit = grind (arith, nat_tests);
-}
-
-pub is_channel-from : (c : ChannelNumbers) → IsChannel c → is_channel c ≡ true
-unfolding is_channel
-is_channel-from c is = grind (arith, nat_tests, is.ordered.some_loss, is.ordered.count_in_span, is.ordered.span_in_deadline, is.ordered.deadline_in_window, is.window_limit, is.deadline_limit)
 
 -- flags and their characters
 is_lost-characters : (flags : List Bool) → map is_lost (map character_of flags) ≡ flags
@@ -56,23 +45,23 @@ characters (c ∷ word) all =
     let rest = characters word parts.1 in
     cc
 
-flags_of-characters : (flags : List Bool) → length flags ≤ 4000000 → flags_of (map character_of flags) ≡ Some flags
+flags_of-characters : (flags : List Bool) → length flags ≤ MAX_FLAGS → flags_of (map character_of flags) ≡ Some flags
 unfolding is_loss_word
 flags_of-characters flags short =
-    let fits : nat_le (length (map character_of flags)) 4000000 ≡ true = grind (arith, nat_tests, length-map flags character_of) in
+    let fits : nat_le (length (map character_of flags)) MAX_FLAGS ≡ true = grind (arith, nat_tests, length-map flags character_of) in
     flags_of-word (map character_of flags) (rw (fits, is_flag-characters flags) refl) ∙ ap Some (is_lost-characters flags)
 
-flags_of_parts : (word : List ℕ) (flags : List Bool) (test : Bool) → is_loss_word word ≡ test → flags_of word ≡ Some flags → (word ≡ map character_of flags) × (length flags ≤ 4000000)
+flags_of_parts : (word : List ℕ) (flags : List Bool) (test : Bool) → is_loss_word word ≡ test → flags_of word ≡ Some flags → (word ≡ map character_of flags) × (length flags ≤ MAX_FLAGS)
 unfolding is_loss_word
 flags_of_parts word flags false none is = (let no = flags_of-none word none in absurd (cc))
 flags_of_parts word flags true some is =
     let value = flags_of-word word some in
     let same : map is_lost word ≡ flags = cc in
-    let parts = both (nat_le (length word) 4000000) (list_all is_flag word) some in
-    let short : length word ≤ 4000000 = grind (arith, nat_tests, parts.0) in
+    let parts = both (nat_le (length word) MAX_FLAGS) (list_all is_flag word) some in
+    let short : length word ≤ MAX_FLAGS = grind (arith, nat_tests, parts.0) in
     (characters word parts.1 ∙ ap (map character_of) same, omega (arith, ap length same, length-map word is_lost))
 
-flags_of-to : (word : List ℕ) (flags : List Bool) → flags_of word ≡ Some flags → (word ≡ map character_of flags) × (length flags ≤ 4000000)
+flags_of-to : (word : List ℕ) (flags : List Bool) → flags_of word ≡ Some flags → (word ≡ map character_of flags) × (length flags ≤ MAX_FLAGS)
 flags_of-to word flags is = flags_of_parts word flags (is_loss_word word) refl is
 
 -- the parts of a channel's words, and of a command's

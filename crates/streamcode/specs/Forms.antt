@@ -2,6 +2,7 @@
 use Rattle.std.specs.Prelude.{ℕ, ◌≤◌, Bool, true, false, List, [], ◌∷◌, codes, length, map}
 use Rattle.std.specs.Fmt.{decimal}
 use Rattle.sc_channel.specs.Channel.{IsChannel}
+use Rattle.sc_channel.specs.declared.flags.TheConstants.{MAX_FLAGS}
 use Rattle.streamcode.specs.Words.{Command, lose_word}
 
 -- the character of a flag: 1 (49) where the slot is lost, and else 0 (48)
@@ -16,4 +17,4 @@ words_of (lose_word channel flags) =
 
 -- the limits of what a command may ask for
 abbrev pub IsWithinLimits : Command → Type 0
-IsWithinLimits (lose_word channel flags) = IsChannel channel × (length flags ≤ 4000000)
+IsWithinLimits (lose_word channel flags) = IsChannel channel × (length flags ≤ MAX_FLAGS)

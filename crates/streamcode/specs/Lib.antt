@@ -1,6 +1,6 @@
 pub mod Words
 pub mod Command
 pub mod Forms
-pub mod Due
-pub mod Run
+pub mod End
+pub mod Jobs
 pub mod LoseLaws

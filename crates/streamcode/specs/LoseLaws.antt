@@ -1,36 +1,74 @@
 -- What is said of `lose` in the format's own words.
-use Rattle.std.specs.Prelude.{◌≡◌, ◌↔◌, ℕ, Bool, Some, List, length}
+use Rattle.std.specs.Prelude.{◌≡◌, ◌↔◌, ℕ, ◌<◌, ◌≤◌, Bool, true, false, List, [], ◌++◌, length}
+use Rattle.sc_outside.specs.Ends.{Due}
 use Rattle.sc_channel.specs.Channel.{ChannelNumbers}
+use Rattle.sc_channel.specs.Flags.{set_count}
 use Rattle.sc_channel.specs.Loss.{IsAdmissible}
-use Rattle.sc_rtpdump.specs.Entry.{Entry}
-use Rattle.sc_rtpdump.specs.Capture.{IsCapture, AreBytes}
-use Rattle.sc_rtpdump.specs.Thinned.{thinned}
-use Rattle.streamcode.specs.Words.{lose_word}
-use Rattle.streamcode.specs.Due.{Due, command_due}
+use Rattle.sc_rtpdump.specs.declared.fault.DumpFault.TheVariants.{Preamble, RecordHead, RecordLength, Truncated}
+use Rattle.sc_rtpdump.specs.Record.{Record, length_field}
+use Rattle.sc_rtpdump.specs.Capture.{Parts, IsCapture, AreBytes, IsReading, BeginsOtherwise}
+use Rattle.sc_rtpdump.specs.Head.{IsPartHead, IsPartBody}
+use Rattle.sc_rtpdump.specs.Thin.{thinned}
+use Rattle.streamcode.specs.declared.end.End.{End}
+use Rattle.streamcode.specs.declared.end.End.TheVariants.{Thinned, Capture, MoreRecords, FewerRecords}
+use Rattle.streamcode.specs.End.{status_of}
+use Rattle.streamcode.specs.Jobs.{lose_job}
 
--- what is due for `lose` with this channel and this loss
-abbrev pub due_of_lose : ChannelNumbers → List Bool → List ℕ → Due
-due_of_lose channel flags input = command_due (Some (lose_word channel flags)) input
+-- what is due for `lose` with this channel and this loss, where this is the whole input
+abbrev pub due_of_lose : ChannelNumbers → List Bool → List ℕ → Due End
+due_of_lose channel flags input = (lose_job channel flags).whole input
 
 -- a capture with as many records as flags, and an admissible loss: the thinned capture is due, with status 0
 abbrev pub ThinnedAreDue : Type 0
-ThinnedAreDue = (channel : ChannelNumbers) (flags : List Bool) (input preamble : List ℕ) (entries : List Entry)
-    → IsCapture input preamble entries → length entries ≡ length flags → IsAdmissible channel flags
-    → due_of_lose channel flags input ≡ record { status = 0; text = thinned flags preamble entries }
+ThinnedAreDue = (channel : ChannelNumbers) (flags : List Bool) (input preamble : List ℕ) (records : List Record)
+    → IsCapture input preamble records → length records ≡ length flags → IsAdmissible channel flags
+    → due_of_lose channel flags input ≡ record {
+      answer = Thinned (record { records = length flags; lost = set_count flags });
+      text = thinned flags preamble records;
+      at_end = true;
+    }
 
 -- an input that is a capture with as many records as flags
 pub record HasRecords (input : List ℕ) (flags : List Bool) : Type 0 where
   pub preamble : List ℕ
-  pub entries : List Entry
-  pub capture : IsCapture input preamble entries
-  pub count : length entries ≡ length flags
+  pub records : List Record
+  pub capture : IsCapture input preamble records
+  pub count : length records ≡ length flags
 
 -- status 0 is due only there
 abbrev pub ZeroIsThinned : Type 0
-ZeroIsThinned = (channel : ChannelNumbers) (flags : List Bool) (input : List ℕ) → AreBytes input → (due_of_lose channel flags input).status ≡ 0
+ZeroIsThinned = (channel : ChannelNumbers) (flags : List Bool) (input : List ℕ) → AreBytes input → status_of (due_of_lose channel flags input).answer ≡ 0
     → IsAdmissible channel flags × HasRecords input flags
 
 -- status 1 is due exactly where the loss isn't admissible
 abbrev pub OneIsRefused : Type 0
 OneIsRefused = (channel : ChannelNumbers) (flags : List Bool) (input : List ℕ)
-    → ((due_of_lose channel flags input).status ≡ 1) ↔ (IsAdmissible channel flags → ⊥)
+    → (status_of (due_of_lose channel flags input).answer ≡ 1) ↔ (IsAdmissible channel flags → ⊥)
+
+-- a refusal of the input, with the bytes that are given by then
+abbrev pub refused : End → List ℕ → Due End
+refused end text = record { answer = end; text = text; at_end = false }
+
+-- an input that begins with no preamble is refused with nothing given
+abbrev pub PreamblesAreRefused : Type 0
+PreamblesAreRefused = (channel : ChannelNumbers) (flags : List Bool) (input : List ℕ) → IsAdmissible channel flags → BeginsOtherwise input
+    → due_of_lose channel flags input ≡ refused (Capture Preamble) []
+
+-- Of an input that is a preamble, whole records and a tail, the preamble is due with the records whose flag isn't set,
+-- whatever refuses it: a record beyond the last flag before all else, then the tail that begins with no record, and else
+-- too few records.
+pub record Refusals (channel : ChannelNumbers) (flags : List Bool) (input preamble : List ℕ) (parts : Parts) : Type 0 where
+  pub more : length flags < length parts.records
+      → due_of_lose channel flags input ≡ refused (MoreRecords (length flags)) (thinned flags preamble parts.records)
+  pub head : length parts.records ≤ length flags → IsPartHead parts.tail
+      → due_of_lose channel flags input ≡ refused (Capture (RecordHead (length parts.records))) (thinned flags preamble parts.records)
+  pub short : length parts.records ≤ length flags → 8 ≤ length parts.tail → length_field parts.tail < 8
+      → due_of_lose channel flags input ≡ refused (Capture (RecordLength (length parts.records))) (thinned flags preamble parts.records)
+  pub cut : length parts.records ≤ length flags → IsPartBody parts.tail
+      → due_of_lose channel flags input ≡ refused (Capture (Truncated (length parts.records))) (thinned flags preamble parts.records)
+  pub fewer : length parts.records < length flags → parts.tail ≡ []
+      → due_of_lose channel flags input ≡ refused (FewerRecords (length flags) (length parts.records)) (thinned flags preamble parts.records)
+
+abbrev pub ReadingsAreRefused : Type 0
+ReadingsAreRefused = (channel : ChannelNumbers) (flags : List Bool) (input preamble : List ℕ) (parts : Parts) → IsAdmissible channel flags
+    → IsReading input preamble parts → Refusals channel flags input preamble parts

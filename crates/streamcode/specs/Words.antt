@@ -3,7 +3,8 @@ use Rattle.std.specs.Prelude.{ℕ, ◌^◌, ◌==◌, ◌&&◌, ◌||◌, Bool, 
 use Rattle.std.specs.List.{list_all}
 use Rattle.std.specs.Str.{all_ascii_digits, bytes_eq}
 use Rattle.std.specs.Str.Parse.{digits_value}
-use Rattle.sc_channel.specs.Channel.{ChannelNumbers}
+use Rattle.sc_channel.specs.Channel.{ChannelNumbers, is_channel}
+use Rattle.sc_channel.specs.declared.flags.TheConstants.{MAX_FLAGS}
 
 -- a word has one character, or begins with one above the zero (48): with no sign and no leading zero
 abbrev pub begins_plain : List ℕ → Bool
@@ -17,11 +18,6 @@ is_numeral word = all_ascii_digits word && begins_plain word
 unfoldable pub number_of : List ℕ → Option ℕ
 number_of word =
     if is_numeral word && nat_lt (digits_value 10 word) (2 ^ 32) then Some (digits_value 10 word) else None
-
--- 1 ≤ n ≤ b ≤ t < w, w ≤ 255 and t ≤ 40
-unfoldable pub is_channel : ChannelNumbers → Bool
-is_channel c =
-    nat_le 1 c.n && nat_le c.n c.b && nat_le c.b c.t && nat_lt c.t c.w && nat_le c.w 255 && nat_le c.t 40
 
 -- the channel that four numbers are, where they are one
 abbrev pub channel_at : Option ℕ → Option ℕ → Option ℕ → Option ℕ → Option ChannelNumbers
@@ -41,9 +37,9 @@ is_flag character = character == 48 || character == 49
 abbrev pub is_lost : ℕ → Bool
 is_lost character = character == 49
 
--- at most 4,000,000 characters, each 0 or 1
+-- at most as many characters as a loss has flags, each 0 or 1
 unfoldable pub is_loss_word : List ℕ → Bool
-is_loss_word word = nat_le (length word) 4000000 && list_all is_flag word
+is_loss_word word = nat_le (length word) MAX_FLAGS && list_all is_flag word
 
 -- the flags that a loss word writes, one a character
 unfoldable pub flags_of : List ℕ → Option (List Bool)

@@ -1,23 +1,30 @@
-//! How a run ends: its status and its note.
+//! How a run ends: its status, its note, and the ends of the layers' faults.
 ghost use Rattle.std.specs.Prelude.{◌≡◌};
-ghost use Rattle.streamcode.specs.Run.{status_of};
+ghost use Rattle.streamcode.specs.End.{status_of, end_of_dump, end_of_drop};
 
 use sc_rtpdump::{DropFault, Dropped, DumpFault};
-use std::fmt;
 
-/// How a run ends.
+/// How a run ends, by its cause. Commands share the ends that they have in common.
 #[derive(Clone, Copy, Debug, PartialEq, Eq)]
 pub enum End {
+    /// The capture was thinned.
+    Thinned(Dropped),
+    /// The loss isn't admissible: this window of it is the first that isn't fine.
+    LossRefused(usize),
     /// The words have no form.
     Usage,
-    /// Memory ran out before anything was read.
+    /// The input isn't a capture.
+    Capture(DumpFault),
+    /// The loss has so many flags, and the capture more records than that.
+    MoreRecords(u32),
+    /// The loss has so many flags, and the capture so many records, which are fewer.
+    FewerRecords(u32, u32),
+    /// A read of the input failed.
+    ReadFault,
+    /// A write of the output failed.
+    WriteFault,
+    /// Memory ran out.
     NoMemory,
-    /// `lose`: this window of the loss isn't fine.
-    LossRefused(usize),
-    /// `lose`: the capture was thinned.
-    Thinned(Dropped),
-    /// `lose`: thinning ended early; the loss has so many flags.
-    NotThinned(DropFault, u32),
 }
 
 impl End {
@@ -30,46 +37,35 @@ impl End {
             End::Thinned(_) => 0,
             End::LossRefused(_) => 1,
             End::Usage => 2,
+            End::Capture(_) | End::MoreRecords(_) | End::FewerRecords(_, _) => 3,
+            End::ReadFault => 7,
+            End::WriteFault => 8,
             End::NoMemory => 9,
-            End::NotThinned(DropFault::Dump(DumpFault::Read), _) => 7,
-            End::NotThinned(DropFault::Write, _) => 8,
-            End::NotThinned(DropFault::Dump(DumpFault::Memory), _) => 9,
-            End::NotThinned(_, _) => 3,
+        }
+    }
+
+    /// The end of thinning a capture by so many flags.
+    pub fn of_drop(outcome: Result<Dropped, DropFault>, flags: u32) -> End
+        ensures { result ≡ end_of_drop flags outcome }
+    {
+        match outcome {
+            Ok(dropped) => End::Thinned(dropped),
+            Err(DropFault::Dump(fault)) => End::from(fault),
+            Err(DropFault::More) => End::MoreRecords(flags),
+            Err(DropFault::Fewer(records)) => End::FewerRecords(flags, records),
+            Err(DropFault::Write) => End::WriteFault,
         }
     }
 }
 
-impl fmt::Display for End {
-    fn fmt<W: fmt::Write>(&self, f: &mut fmt::Formatter<W>) -> fmt::Result {
-        match self {
-            End::Usage => write!(f, "usage"),
-            End::NoMemory => write!(f, "no memory"),
-            End::LossRefused(window) => write!(f, "loss refused at window {window}"),
-            End::Thinned(dropped) => {
-                let records = dropped.records;
-                let lost = dropped.lost;
-                write!(f, "records {records} lost {lost}")
-            }
-            End::NotThinned(fault, flags) => note_fault(f, fault, *flags),
-        }
-    }
-}
+impl From<DumpFault> for End {
+    ghost from_gives = { λ fault end. end ≡ end_of_dump fault };
 
-/// Writes the note of a capture that wasn't thinned.
-fn note_fault<W: fmt::Write>(
-    f: &mut fmt::Formatter<W>,
-    fault: &DropFault,
-    flags: u32,
-) -> fmt::Result {
-    match fault {
-        DropFault::More => write!(f, "flags {flags} more records"),
-        DropFault::Fewer(records) => write!(f, "flags {flags} records {records}"),
-        DropFault::Write => write!(f, "write fault"),
-        DropFault::Dump(DumpFault::Preamble) => write!(f, "preamble"),
-        DropFault::Dump(DumpFault::RecordHead(i)) => write!(f, "record {i} head"),
-        DropFault::Dump(DumpFault::RecordLength(i)) => write!(f, "record {i} length"),
-        DropFault::Dump(DumpFault::Truncated(i)) => write!(f, "record {i} cut"),
-        DropFault::Dump(DumpFault::Read) => write!(f, "read fault"),
-        DropFault::Dump(DumpFault::Memory) => write!(f, "no memory"),
+    fn from(fault: DumpFault) -> End {
+        match fault {
+            DumpFault::Read => End::ReadFault,
+            DumpFault::Memory => End::NoMemory,
+            other => End::Capture(other),
+        }
     }
 }

@@ -2,6 +2,7 @@
 #![tactic(auto)]
 
 mod end;
+mod lose;
 mod lose_laws;
 mod note;
 mod program;
@@ -12,6 +13,7 @@ mod words;
 
 pub use end::End;
 pub use lose_laws::lose_is_thinning;
+pub use note::conclude;
 pub use program::run;
-pub use word_laws::{one_channel, one_form, one_numeral};
+pub use word_laws::{one_form, one_numeral};
 pub use words::{Command, is_loss_word, read_loss_word, read_words};

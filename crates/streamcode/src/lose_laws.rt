@@ -1,11 +1,13 @@
-//! Laws of what is due for `lose`, each proved as a contract.
-ghost use Rattle.streamcode.specs.LoseLaws.{ThinnedAreDue, ZeroIsThinned, OneIsRefused};
+//! What is proved of `lose` in the format's own words.
+ghost use Rattle.streamcode.specs.LoseLaws.{ThinnedAreDue, ZeroIsThinned, OneIsRefused, PreamblesAreRefused, ReadingsAreRefused};
 
-/// The thinned capture is due, with status 0, exactly where the input is a capture with as many records as there are
-/// flags and the loss is admissible. Status 1 is due exactly where the loss isn't admissible, and else 3. It does
-/// nothing; its contract is the law on the meaning that `run` is held to.
+/// The thinned capture is due, with status 0, exactly where the input is a capture with as many records as the loss has
+/// flags, and the loss is admissible; status 1 exactly where the loss isn't. Every other input is refused with status 3 by
+/// its first fault, with the records before it. It does nothing; its contract is the law.
 pub fn lose_is_thinning()
     ensures thinned { ThinnedAreDue }
     ensures zero { ZeroIsThinned }
     ensures one { OneIsRefused }
+    ensures preamble { PreamblesAreRefused }
+    ensures refused { ReadingsAreRefused }
 {}

@@ -1,9 +1,8 @@
 //! Laws of the definitions that the contracts on words cite, each proved as a contract.
 
-ghost use Rattle.std.specs.Prelude.{◌≡◌, ℕ, ◌<◌, ◌^◌, ◌↔◌, true, List, Some};
+ghost use Rattle.std.specs.Prelude.{◌≡◌, ℕ, ◌<◌, ◌^◌, ◌↔◌, List, Some};
 ghost use Rattle.std.specs.Fmt.{decimal};
-ghost use Rattle.sc_channel.specs.Channel.{ChannelNumbers, IsChannel};
-ghost use Rattle.streamcode.specs.Words.{Command, number_of, is_channel, command_of};
+ghost use Rattle.streamcode.specs.Words.{Command, number_of, command_of};
 ghost use Rattle.streamcode.specs.Forms.{words_of, IsWithinLimits};
 
 /// A word writes a number exactly where it is the text that `{}` prints of that number, and the
@@ -11,11 +10,6 @@ ghost use Rattle.streamcode.specs.Forms.{words_of, IsWithinLimits};
 pub fn one_numeral()
     ensures { (word : List ℕ) (n : ℕ) →
         (number_of word ≡ Some n) ↔ ((word ≡ decimal n) × (n < 2 ^ 32)) }
-{}
-
-/// The test on the numbers of a channel is the definition of a channel.
-pub fn one_channel()
-    ensures { (numbers : ChannelNumbers) → (is_channel numbers ≡ true) ↔ IsChannel numbers }
 {}
 
 /// Words ask for a command exactly where they are the words of that command, which is within its

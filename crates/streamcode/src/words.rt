@@ -5,12 +5,9 @@ ghost use Rattle.std.specs.Option.{option_map};
 ghost use Rattle.streamcode.specs.Words.{number_of, begins_plain, channel_of, is_lost, flags_of, is_loss_word, lose_of, command_of, texts};
 ghost use Rattle.streamcode.specs.Command.{meaning, HasItsForms};
 
-use sc_channel::{Channel, Flags};
+use sc_channel::{Channel, Flags, MAX_FLAGS};
 use sc_outside::NoMemory;
 use std::alloc::Global;
-
-/// The most flags of a loss, one a slot.
-const MAX_FLAGS: usize = 4_000_000;
 
 /// What a command line asks for. The forms of the words are of this project.
 #[derive(Copy, Clone, Debug, PartialEq, Eq)]
@@ -60,7 +57,7 @@ fn read_lose(words: &[String]) -> Option<Command<'_>>
 }
 
 /// The channel that four words write.
-#[tactic(auto, unfolding(crate::specs::Words::is_channel))]
+#[tactic(auto, unfolding(sc_channel::specs::Channel::is_channel))]
 fn read_channel(w: &str, b: &str, n: &str, t: &str) -> Option<Channel>
     ensures { result ≡ channel_of w.now b.now n.now t.now }
 {
@@ -110,11 +107,11 @@ pub fn read_loss_word(alloc: Global, word: &str) -> Result<Flags, NoMemory>
     ensures flags { IfOk result (λ flags. flags_of word.now ≡ Some flags) }
     ensures each { IfOk result (λ flags. flags ≡ map is_lost word.now) }
 {
-    let mut flags = Flags::with_capacity(alloc, word.len())?;
+    let mut flags = Vec::with_capacity(alloc, word.len())?;
     for byte in word.as_bytes() {
         flags.push(*byte == b'1')?;
     }
-    Ok(flags)
+    Ok(Flags::from_vec(flags))
 }
 
 #[cfg(test)]

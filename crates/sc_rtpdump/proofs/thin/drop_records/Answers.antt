@@ -1,4 +1,4 @@
-use Rattle.std.proofs.Common.{subst}
+use Rattle.std.proofs.Common.{refl, subst}
 use Rattle.sc_outside.specs.Port.{Puts}
 use Rattle.sc_outside.specs.Whole.{WriteFailed}
 use Rattle.sc_outside.proofs.EndsLaws.{Ends-no_memory}
@@ -7,7 +7,7 @@ use Rattle.sc_rtpdump.proofs.ThinSteps.{records_end, lost_end, flush_end, preamb
 use Rattle.sc_rtpdump.proofs.thin.drop_records.Goals as goal
 
 pub returns-in_default : goal.returns-in_default
-returns-in_default g c = Ends-no_memory (thinning c.args.flags.now) (g.P.Port.told c.args.port.now)
+returns-in_default g c = Ends-no_memory (thinning c.args.flags.now) (g.P.Port.told c.args.port.now) refl
 
 pub returns-in-Err : goal.returns-in-Err
 returns-in-Err g c = preamble_end c.args.flags.now _ _ c.in-Err.fault c.in-Err.ensures
