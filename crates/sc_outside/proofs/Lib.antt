@@ -2,7 +2,7 @@
 --
 --   FaultsLaws     Rose-earlier, Rose-later: a count that rose in one part of a run rose in the whole of it
 --   MovesLaws      one stretch of a run after another: Moves-trans, Takes-trans, Puts-trans; nothing moved: Moves-none,
---                  Moves-untouched, Takes-none, Puts-none; one call: Takes-one, Puts-one, Takes-failed, Puts-failed
+--                  Takes-none, Puts-none; one call: Takes-one, Puts-one, Takes-failed, Puts-failed
 --   WholeLaws      pieces written one after the other: PutsAll-none, PutsAll-trans; a write that failed within the
 --                  first piece or the second: WriteFailed-first, WriteFailed-then
 --
@@ -12,4 +12,5 @@ pub mod JournalSteps
 pub mod MemorySteps
 pub mod MovesLaws
 pub mod PartSteps
+pub mod StreamSteps
 pub mod WholeLaws

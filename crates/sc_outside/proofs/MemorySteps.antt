@@ -37,7 +37,9 @@ ReadGives-memory old new buf (Ok n) room known h prefix =
       write_faults = ap (λ s. s.write_faults) h.2;
     }
 ReadGives-memory old new buf (Err e) room known h prefix = record {
-  untouched = record { left = ap (λ s. Some s.left) h.1; given = ap (λ s. Some s.given) h.1; journal = ap (λ s. Some s.journal) h.1 };
+  left = ap (λ s. s.left) h.1;
+  given = ap (λ s. Some s.given) h.1;
+  journal = ap (λ s. Some s.journal) h.1;
   rose = Rose-counted _ _ known.read_faults (ap (λ s. s.read_faults) h.1);
   write_faults = ap (λ s. s.write_faults) h.1;
 }
@@ -56,7 +58,9 @@ WriteGives-memory old new piece (Ok n) some known h =
       read_faults = ap (λ s. s.read_faults) h.2;
     }
 WriteGives-memory old new piece (Err e) some known h = record {
-  untouched = record { left = ap (λ s. Some s.left) h.1; given = ap (λ s. Some s.given) h.1; journal = ap (λ s. Some s.journal) h.1 };
+  given = ap (λ s. s.given) h.1;
+  left = ap (λ s. Some s.left) h.1;
+  journal = ap (λ s. Some s.journal) h.1;
   rose = Rose-counted _ _ known.write_faults (ap (λ s. s.write_faults) h.1);
   read_faults = ap (λ s. s.read_faults) h.1;
 }
@@ -67,7 +71,7 @@ SinkGives-memory old new piece (Ok n) some known h =
     let free : length old.given < old.room = room_left _ old.room (length old.given) h.0 in
     record { some = omega (arith, h.1, free); bound = omega (arith, h.1); given = ap (λ s. s.given) h.2; faults = ap (λ s. s.faults) h.2 }
 SinkGives-memory old new piece (Err e) some known h = record {
-  given = ap (λ s. Some s.given) h.1;
+  given = ap (λ s. s.given) h.1;
   rose = Rose-counted _ _ known.faults (ap (λ s. s.faults) h.1);
 }
 

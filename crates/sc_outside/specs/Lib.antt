@@ -4,4 +4,5 @@ pub mod Memory
 pub mod Pending
 pub mod Port
 pub mod Sink
+pub mod Stream
 pub mod Whole
