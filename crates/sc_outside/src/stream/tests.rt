@@ -44,8 +44,8 @@ impl Script {
 
 impl Read for Script {
     fn read(&mut self, buf: &mut [u8]) -> io::Result<usize> {
-        let n = self.call(buf.len().min(self.left.len()))?;
         let left = self.left;
+        let n = self.call(buf.len().min(left.len()))?;
         buf[..n].copy_from_slice(&left[..n]);
         self.left = &left[n..];
         Ok(n)
