@@ -1,10 +1,10 @@
 //! The channel of a streaming erasure code, the losses that it admits, and their windows.
 #![tactic(auto)]
 
-mod limits;
+mod channel;
+mod flags;
 mod loss;
-mod windows;
 
-pub use limits::{BadChannel, Channel};
-pub use loss::Flags;
-pub use windows::first_bad_window;
+pub use channel::{BadChannel, Channel, MAX_DEADLINE, MAX_WINDOW, one_channel};
+pub use flags::{Flags, MAX_FLAGS};
+pub use loss::first_bad_window;

@@ -6,3 +6,4 @@ pub mod Port
 pub mod Sink
 pub mod Stream
 pub mod Whole
+pub mod Ends

@@ -102,13 +102,18 @@ impl Pending {
         Ok(())
     }
 
-    /// Makes way for `n` bytes of a port: what waits is written where `n` more don't fit, and where the port hasn't
-    /// them at hand, so that no byte waits while a read does.
-    pub fn make_way<P: Port>(&mut self, port: &mut P, n: usize) -> Result<(), Failed>
-        requires { n ≤ ROOM }
-        ensures { MakesWay self.old self.new (P.told port.old) (P.told port.new) n ROOM result }
+    /// Makes way for the next bytes of a port: what waits is written where `room` more bytes don't fit, and where the
+    /// port hasn't `ready` bytes at hand, so that no byte waits while a read does.
+    pub fn make_way<P: Port>(
+        &mut self,
+        port: &mut P,
+        room: usize,
+        ready: usize,
+    ) -> Result<(), Failed>
+        requires { room ≤ ROOM }
+        ensures { MakesWay self.old self.new (P.told port.old) (P.told port.new) room ROOM result }
     {
-        if n <= Pending::ROOM - self.len() && n <= port.ready() {
+        if room <= Pending::ROOM - self.len() && ready <= port.ready() {
             return Ok(());
         }
         self.flush(port)

@@ -2,17 +2,17 @@
 use Rattle.std.proofs.Common.{◌≡◌, ℕ, ◌+◌, ◌-◌, ◌^◌, ◌<◌, ◌≤◌, List, ◌++◌, length, take, drop, refl, sym, ap, ◌∙◌, subst, arith, length-append, length-drop}
 use Rattle.std.proofs.Math.Seq.{take-append-add}
 use Rattle.std.proofs.lemmas.List.{length-take-le}
-use Rattle.sc_rtpdump.specs.Entry.{entry_bytes, head_bytes}
-use Rattle.sc_rtpdump.specs.Buffer.{HoldsEntry}
+use Rattle.sc_rtpdump.specs.Record.{record_bytes, head_bytes}
+use Rattle.sc_rtpdump.specs.Buffer.{HoldsRecord}
 
 pub length-head_bytes : (len plen offset : ℕ) → length (head_bytes len plen offset) ≡ 8
 length-head_bytes len plen offset = refl
 
 -- a head before bytes of which it counts some
-pub HoldsEntry-made : (len plen offset : ℕ) (rest : List ℕ) → length rest ≡ 65527 → 8 ≤ len → len ≤ 65535 → plen < 2 ^ 16 → offset < 2 ^ 32
-    → HoldsEntry plen offset len (head_bytes len plen offset ++ rest)
-unfolding entry_bytes
-HoldsEntry-made len plen offset rest size head bound small_plen small_offset =
+pub HoldsRecord-made : (len plen offset : ℕ) (rest : List ℕ) → length rest ≡ 65527 → 8 ≤ len → len ≤ 65535 → plen < 2 ^ 16 → offset < 2 ^ 32
+    → HoldsRecord plen offset len (head_bytes len plen offset ++ rest)
+unfolding record_bytes
+HoldsRecord-made len plen offset rest size head bound small_plen small_offset =
     let front = head_bytes len plen offset in
     let body : List ℕ = take (len - 8) rest in
     let count : length body ≡ len - 8 = length-take-le (len - 8) rest (omega arith) in
@@ -28,7 +28,7 @@ HoldsEntry-made len plen offset rest size head bound small_plen small_offset =
     }
 
 -- a buffer whose front was overwritten by a head
-pub HoldsEntry-set : (len plen offset : ℕ) (old new : List ℕ) → new ≡ head_bytes len plen offset ++ drop 8 old → length old ≡ 65535 → 8 ≤ len → len ≤ 65535 → plen < 2 ^ 16 → offset < 2 ^ 32
-    → HoldsEntry plen offset len new
-HoldsEntry-set len plen offset old new e size head bound small_plen small_offset =
-    subst (HoldsEntry plen offset len) (sym e) (HoldsEntry-made len plen offset (drop 8 old) (length-drop 8 old ∙ omega (arith, size)) head bound small_plen small_offset)
+pub HoldsRecord-set : (len plen offset : ℕ) (old new : List ℕ) → new ≡ head_bytes len plen offset ++ drop 8 old → length old ≡ 65535 → 8 ≤ len → len ≤ 65535 → plen < 2 ^ 16 → offset < 2 ^ 32
+    → HoldsRecord plen offset len new
+HoldsRecord-set len plen offset old new e size head bound small_plen small_offset =
+    subst (HoldsRecord plen offset len) (sym e) (HoldsRecord-made len plen offset (drop 8 old) (length-drop 8 old ∙ omega (arith, size)) head bound small_plen small_offset)

@@ -6,32 +6,32 @@ use Rattle.std.proofs.lemmas.Bool.{lt-ltb, le-ltb, false_from_ne_true, eqb-true}
 use Rattle.std.proofs.Math.Seq.{take-append-add}
 use Rattle.std.specs.Int.{w16, w32, from_be_bytes}
 use Rattle.std.specs.List.{AllByRecursion}
-use Rattle.sc_rtpdump.specs.Entry.{Entry, IsEntry, entry_bytes, head_bytes, length_field, entry_at, Break, short_head, short_length, cut_body, Front, ends, breaks, starts, front_of}
+use Rattle.sc_rtpdump.specs.Record.{Record, IsRecord, record_bytes, head_bytes, length_field, record_at, Break, short_head, short_length, cut_body, Front, ends, breaks, starts, front_of}
 use Rattle.sc_rtpdump.specs.Preamble.{IsPreamble, preamble_len}
-use Rattle.sc_rtpdump.specs.Capture.{entries_bytes, Parts, with_first, parts_within, parts_of, no_preamble, reads, reading_with, reading_of}
+use Rattle.sc_rtpdump.specs.Capture.{records_bytes, Parts, with_first, parts_within, parts_of, no_preamble, reads, reading_with, reading_of}
 use Rattle.sc_rtpdump.proofs.HeadLaws.{length_field-head}
 use Rattle.sc_rtpdump.proofs.PreambleLaws.{preamble_len-is}
 
 -- the length of a record's spelling
-pub length-entry_bytes : (e : Entry) → length (entry_bytes e) ≡ 8 + length e.body
-unfolding entry_bytes
-length-entry_bytes e = length-append (head_bytes (8 + length e.body) e.plen e.offset) e.body
+pub length-record_bytes : (e : Record) → length (record_bytes e) ≡ 8 + length e.body
+unfolding record_bytes
+length-record_bytes e = length-append (head_bytes (8 + length e.body) e.plen e.offset) e.body
 
-entry_then : (e : Entry) (rest : List ℕ) → entry_bytes e ++ rest ≡ head_bytes (8 + length e.body) e.plen e.offset ++ (e.body ++ rest)
-unfolding entry_bytes
-entry_then e rest = append_assoc (head_bytes (8 + length e.body) e.plen e.offset) e.body rest
+record_then : (e : Record) (rest : List ℕ) → record_bytes e ++ rest ≡ head_bytes (8 + length e.body) e.plen e.offset ++ (e.body ++ rest)
+unfolding record_bytes
+record_then e rest = append_assoc (head_bytes (8 + length e.body) e.plen e.offset) e.body rest
 
-field_then : (e : Entry) (rest : List ℕ) → IsEntry e → length_field (entry_bytes e ++ rest) ≡ 8 + length e.body
-field_then e rest h = ap length_field (entry_then e rest) ∙ length_field-head (8 + length e.body) e.plen e.offset (e.body ++ rest) (omega (arith, h.body))
+field_then : (e : Record) (rest : List ℕ) → IsRecord e → length_field (record_bytes e ++ rest) ≡ 8 + length e.body
+field_then e rest h = ap length_field (record_then e rest) ∙ length_field-head (8 + length e.body) e.plen e.offset (e.body ++ rest) (omega (arith, h.body))
 
 not_empty : (n : ℕ) → 0 < n → (n == 0) ≡ false
 not_empty n h = false_from_ne_true (n == 0) (λ e. absurd (omega (arith, eqb-true n 0 e)))
 
 -- the four tests of a front
-abbrev pub chosen : Bool → Bool → Bool → Bool → Entry → List ℕ → Front
+abbrev pub chosen : Bool → Bool → Bool → Bool → Record → List ℕ → Front
 chosen a b c d e rest = cond a ends (cond b (breaks short_head) (cond c (breaks short_length) (cond d (breaks cut_body) (starts e rest))))
 
-chosen-last : (a b c d : Bool) (e x : Entry) (r y : List ℕ) → a ≡ false → b ≡ false → c ≡ false → d ≡ false → e ≡ x → r ≡ y → chosen a b c d e r ≡ starts x y
+chosen-last : (a b c d : Bool) (e x : Record) (r y : List ℕ) → a ≡ false → b ≡ false → c ≡ false → d ≡ false → e ≡ x → r ≡ y → chosen a b c d e r ≡ starts x y
 chosen-last true b c d e x r y p q s t u v = absurd (cc)
 chosen-last false true c d e x r y p q s t u v = absurd (cc)
 chosen-last false false true d e x r y p q s t u v = absurd (cc)
@@ -39,84 +39,84 @@ chosen-last false false false true e x r y p q s t u v = absurd (cc)
 chosen-last false false false false e x r y p q s t u v = ap (λ z. starts z r) u ∙ ap (starts x) v
 
 pub front_of-is : (bytes : List ℕ)
-    → front_of bytes ≡ chosen (length bytes == 0) (nat_lt (length bytes) 8) (nat_lt (length_field bytes) 8) (nat_lt (length bytes) (length_field bytes)) (entry_at bytes) (drop (length_field bytes) bytes)
+    → front_of bytes ≡ chosen (length bytes == 0) (nat_lt (length bytes) 8) (nat_lt (length_field bytes) 8) (nat_lt (length bytes) (length_field bytes)) (record_at bytes) (drop (length_field bytes) bytes)
 unfolding front_of
 front_of-is bytes = refl
 
-same_entry : (p q o r : ℕ) (b c : List ℕ) → p ≡ q → o ≡ r → b ≡ c
-    → (let x : Entry = record { plen = p; offset = o; body = b } in x) ≡ record { plen = q; offset = r; body = c }
-same_entry p q o r b c e f g =
+same_record : (p q o r : ℕ) (b c : List ℕ) → p ≡ q → o ≡ r → b ≡ c
+    → (let x : Record = record { plen = p; offset = o; body = b } in x) ≡ record { plen = q; offset = r; body = c }
+same_record p q o r b c e f g =
     ap (λ n. record { plen = n; offset = o; body = b }) e ∙ ap (λ n. record { plen = q; offset = n; body = b }) f ∙ ap (λ l. record { plen = q; offset = r; body = l }) g
 
-body_there : (e : Entry) (rest : List ℕ) → IsEntry e → drop 8 (take (length_field (entry_bytes e ++ rest)) (entry_bytes e ++ rest)) ≡ e.body
+body_there : (e : Record) (rest : List ℕ) → IsRecord e → drop 8 (take (length_field (record_bytes e ++ rest)) (record_bytes e ++ rest)) ≡ e.body
 body_there e rest h =
-    let bytes = entry_bytes e ++ rest in
+    let bytes = record_bytes e ++ rest in
     let head = head_bytes (8 + length e.body) e.plen e.offset in
     ap (λ n. drop 8 (take n bytes)) (field_then e rest h)
-    ∙ ap (λ l. drop 8 (take (8 + length e.body) l)) (entry_then e rest)
+    ∙ ap (λ l. drop 8 (take (8 + length e.body) l)) (record_then e rest)
     ∙ ap (drop 8) (take-append-add head (e.body ++ rest) (length e.body))
     ∙ take_at e.body rest (length e.body) refl
 
-entry_at-is : (e : Entry) (rest : List ℕ) → IsEntry e → entry_at (entry_bytes e ++ rest) ≡ e
-entry_at-is e rest h =
-    same_entry _ e.plen _ e.offset _ e.body
-    (ap (λ l. from_be_bytes w16 (take 2 (drop 2 l))) (entry_then e rest) ∙ from_be_bytes-to_be_bytes_2 e.plen h.plen)
-    (ap (λ l. from_be_bytes w32 (take 4 (drop 4 l))) (entry_then e rest) ∙ from_be_bytes-to_be_bytes_4 e.offset h.offset)
+record_at-is : (e : Record) (rest : List ℕ) → IsRecord e → record_at (record_bytes e ++ rest) ≡ e
+record_at-is e rest h =
+    same_record _ e.plen _ e.offset _ e.body
+    (ap (λ l. from_be_bytes w16 (take 2 (drop 2 l))) (record_then e rest) ∙ from_be_bytes-to_be_bytes_2 e.plen h.plen)
+    (ap (λ l. from_be_bytes w32 (take 4 (drop 4 l))) (record_then e rest) ∙ from_be_bytes-to_be_bytes_4 e.offset h.offset)
     (body_there e rest h)
 
 -- a record that bytes begin with is found
-pub front_of-entry : (e : Entry) (rest : List ℕ) → IsEntry e → front_of (entry_bytes e ++ rest) ≡ starts e rest
-front_of-entry e rest h =
-    let bytes = entry_bytes e ++ rest in
-    let size : length bytes ≡ 8 + length e.body + length rest = length-append (entry_bytes e) rest ∙ ap (λ n. n + length rest) (length-entry_bytes e) in
+pub front_of-record : (e : Record) (rest : List ℕ) → IsRecord e → front_of (record_bytes e ++ rest) ≡ starts e rest
+front_of-record e rest h =
+    let bytes = record_bytes e ++ rest in
+    let size : length bytes ≡ 8 + length e.body + length rest = length-append (record_bytes e) rest ∙ ap (λ n. n + length rest) (length-record_bytes e) in
     let field : length_field bytes ≡ 8 + length e.body = field_then e rest h in
     front_of-is bytes
-    ∙ chosen-last _ _ _ _ (entry_at bytes) e (drop (length_field bytes) bytes) rest
+    ∙ chosen-last _ _ _ _ (record_at bytes) e (drop (length_field bytes) bytes) rest
     (not_empty (length bytes) (omega (arith, size)))
     (le-ltb (length bytes) 8 (omega (arith, size)))
     (le-ltb (length_field bytes) 8 (omega (arith, field)))
     (le-ltb (length bytes) (length_field bytes) (omega (arith, size, field)))
-    (entry_at-is e rest h)
-    (ap (λ n. drop n bytes) field ∙ drop_at (entry_bytes e) rest (8 + length e.body) (length-entry_bytes e))
+    (record_at-is e rest h)
+    (ap (λ n. drop n bytes) field ∙ drop_at (record_bytes e) rest (8 + length e.body) (length-record_bytes e))
 
 -- what begins with no record is told apart by its length
 pub front_of-end : (bytes : List ℕ) → bytes ≡ [] → front_of bytes ≡ ends
 unfolding front_of
 front_of-end bytes e = ap front_of e
 
-chosen-head : (b c d : Bool) (e : Entry) (r : List ℕ) → b ≡ true → chosen false b c d e r ≡ breaks short_head
+chosen-head : (b c d : Bool) (e : Record) (r : List ℕ) → b ≡ true → chosen false b c d e r ≡ breaks short_head
 chosen-head true c d e r p = refl
 chosen-head false c d e r p = absurd (cc)
 
-chosen-length : (c d : Bool) (e : Entry) (r : List ℕ) → c ≡ true → chosen false false c d e r ≡ breaks short_length
+chosen-length : (c d : Bool) (e : Record) (r : List ℕ) → c ≡ true → chosen false false c d e r ≡ breaks short_length
 chosen-length true d e r p = refl
 chosen-length false d e r p = absurd (cc)
 
-chosen-body : (d : Bool) (e : Entry) (r : List ℕ) → d ≡ true → chosen false false false d e r ≡ breaks cut_body
+chosen-body : (d : Bool) (e : Record) (r : List ℕ) → d ≡ true → chosen false false false d e r ≡ breaks cut_body
 chosen-body true e r p = refl
 chosen-body false e r p = absurd (cc)
 
 pub front_of-head : (bytes : List ℕ) → 0 < length bytes → length bytes < 8 → front_of bytes ≡ breaks short_head
 front_of-head bytes some few =
     front_of-is bytes
-    ∙ ap (λ a. chosen a (nat_lt (length bytes) 8) (nat_lt (length_field bytes) 8) (nat_lt (length bytes) (length_field bytes)) (entry_at bytes) (drop (length_field bytes) bytes)) (not_empty (length bytes) some)
+    ∙ ap (λ a. chosen a (nat_lt (length bytes) 8) (nat_lt (length_field bytes) 8) (nat_lt (length bytes) (length_field bytes)) (record_at bytes) (drop (length_field bytes) bytes)) (not_empty (length bytes) some)
     ∙ chosen-head _ _ _ _ _ (lt-ltb (length bytes) 8 few)
 
 pub front_of-length : (bytes : List ℕ) → 8 ≤ length bytes → length_field bytes < 8 → front_of bytes ≡ breaks short_length
 front_of-length bytes whole short =
     let field = length_field bytes in
     front_of-is bytes
-    ∙ ap (λ a. chosen a (nat_lt (length bytes) 8) (nat_lt field 8) (nat_lt (length bytes) field) (entry_at bytes) (drop field bytes)) (not_empty (length bytes) (omega arith))
-    ∙ ap (λ b. chosen false b (nat_lt field 8) (nat_lt (length bytes) field) (entry_at bytes) (drop field bytes)) (le-ltb (length bytes) 8 whole)
+    ∙ ap (λ a. chosen a (nat_lt (length bytes) 8) (nat_lt field 8) (nat_lt (length bytes) field) (record_at bytes) (drop field bytes)) (not_empty (length bytes) (omega arith))
+    ∙ ap (λ b. chosen false b (nat_lt field 8) (nat_lt (length bytes) field) (record_at bytes) (drop field bytes)) (le-ltb (length bytes) 8 whole)
     ∙ chosen-length _ _ _ _ (lt-ltb field 8 short)
 
 pub front_of-body : (bytes : List ℕ) → 8 ≤ length bytes → length bytes < length_field bytes → front_of bytes ≡ breaks cut_body
 front_of-body bytes whole cut =
     let field = length_field bytes in
     front_of-is bytes
-    ∙ ap (λ a. chosen a (nat_lt (length bytes) 8) (nat_lt field 8) (nat_lt (length bytes) field) (entry_at bytes) (drop field bytes)) (not_empty (length bytes) (omega arith))
-    ∙ ap (λ b. chosen false b (nat_lt field 8) (nat_lt (length bytes) field) (entry_at bytes) (drop field bytes)) (le-ltb (length bytes) 8 whole)
-    ∙ ap (λ b. chosen false false b (nat_lt (length bytes) field) (entry_at bytes) (drop field bytes)) (le-ltb field 8 (omega arith))
+    ∙ ap (λ a. chosen a (nat_lt (length bytes) 8) (nat_lt field 8) (nat_lt (length bytes) field) (record_at bytes) (drop field bytes)) (not_empty (length bytes) (omega arith))
+    ∙ ap (λ b. chosen false b (nat_lt field 8) (nat_lt (length bytes) field) (record_at bytes) (drop field bytes)) (le-ltb (length bytes) 8 whole)
+    ∙ ap (λ b. chosen false false b (nat_lt (length bytes) field) (record_at bytes) (drop field bytes)) (le-ltb field 8 (omega arith))
     ∙ chosen-body _ _ _ (lt-ltb (length bytes) field cut)
 
 -- with the first two bytes the field is known
@@ -125,40 +125,40 @@ unfolding length_field
 length_field-front bytes rest two = ap (from_be_bytes w16) (take-append-le 2 bytes rest two)
 
 -- records before others
-abbrev pub with_all : List Entry → Parts → Parts
+abbrev pub with_all : List Record → Parts → Parts
 with_all [] parts = parts
 with_all (e ∷ es) parts = with_first e (with_all es parts)
 
-pub entries-with_all : (es : List Entry) (parts : Parts) → (with_all es parts).entries ≡ es ++ parts.entries
-entries-with_all [] parts = refl
-entries-with_all (e ∷ es) parts = ap (λ l. e ∷ l) (entries-with_all es parts)
+pub records-with_all : (es : List Record) (parts : Parts) → (with_all es parts).records ≡ es ++ parts.records
+records-with_all [] parts = refl
+records-with_all (e ∷ es) parts = ap (λ l. e ∷ l) (records-with_all es parts)
 
-pub tail-with_all : (es : List Entry) (parts : Parts) → (with_all es parts).tail ≡ parts.tail
+pub tail-with_all : (es : List Record) (parts : Parts) → (with_all es parts).tail ≡ parts.tail
 tail-with_all [] parts = refl
 tail-with_all (e ∷ es) parts = tail-with_all es parts
 
 abbrev pub after_front : ℕ → List ℕ → Front → Parts
 after_front n bytes front = elim front as (λ _. Parts) [
-  | ends ↦ record { entries = []; tail = bytes }
-  | breaks break ↦ record { entries = []; tail = bytes }
-  | starts entry rest ↦ with_first entry (parts_within n rest)
+  | ends ↦ record { records = []; tail = bytes }
+  | breaks break ↦ record { records = []; tail = bytes }
+  | starts rec rest ↦ with_first rec (parts_within n rest)
 ]
 
 -- enough is enough: whole records at the front are found
-pub parts_along : (es : List Entry) (rest : List ℕ) (n : ℕ) → AllByRecursion IsEntry es → length (entries_bytes es ++ rest) ≤ n
-    → (m : ℕ) × (length rest ≤ m) × (parts_within n (entries_bytes es ++ rest) ≡ with_all es (parts_within m rest))
+pub parts_along : (es : List Record) (rest : List ℕ) (n : ℕ) → AllByRecursion IsRecord es → length (records_bytes es ++ rest) ≤ n
+    → (m : ℕ) × (length rest ≤ m) × (parts_within n (records_bytes es ++ rest) ≡ with_all es (parts_within m rest))
 parts_along [] rest n h room = (n, room, refl)
 parts_along (e ∷ es) rest zero h room =
-    absurd (omega (arith, room, length-append (entries_bytes (e ∷ es)) rest, length-append (entry_bytes e) (entries_bytes es), length-entry_bytes e))
+    absurd (omega (arith, room, length-append (records_bytes (e ∷ es)) rest, length-append (record_bytes e) (records_bytes es), length-record_bytes e))
 parts_along (e ∷ es) rest (suc n) h room =
-    let behind = entries_bytes es ++ rest in
-    let split : entries_bytes (e ∷ es) ++ rest ≡ entry_bytes e ++ behind = append_assoc (entry_bytes e) (entries_bytes es) rest in
-    let less : length behind ≤ n = omega (arith, room, ap length split, length-append (entry_bytes e) behind, length-entry_bytes e) in
+    let behind = records_bytes es ++ rest in
+    let split : records_bytes (e ∷ es) ++ rest ≡ record_bytes e ++ behind = append_assoc (record_bytes e) (records_bytes es) rest in
+    let less : length behind ≤ n = omega (arith, room, ap length split, length-append (record_bytes e) behind, length-record_bytes e) in
     let more = parts_along es rest n h.1 less in (
       more.0,
       more.1,
       ap (λ bytes. after_front n bytes (front_of bytes)) split
-          ∙ ap (after_front n (entry_bytes e ++ behind)) (front_of-entry e behind h.0)
+          ∙ ap (after_front n (record_bytes e ++ behind)) (front_of-record e behind h.0)
           ∙ ap (with_first e) more.2,
     )
 
@@ -176,22 +176,22 @@ unfolding reading_of
 reading_of-none bytes e = ap (λ n. reading_with n bytes) e
 
 -- where no record is at the front, there is none
-pub parts_within-none : (m : ℕ) (bytes : List ℕ) → front_of bytes ≡ ends → parts_within m bytes ≡ record { entries = []; tail = bytes }
+pub parts_within-none : (m : ℕ) (bytes : List ℕ) → front_of bytes ≡ ends → parts_within m bytes ≡ record { records = []; tail = bytes }
 parts_within-none zero bytes e = refl
 parts_within-none (suc m) bytes e = ap (after_front m bytes) e
 
-pub parts_within-broken : (m : ℕ) (bytes : List ℕ) (break : Break) → front_of bytes ≡ breaks break → parts_within m bytes ≡ record { entries = []; tail = bytes }
+pub parts_within-broken : (m : ℕ) (bytes : List ℕ) (break : Break) → front_of bytes ≡ breaks break → parts_within m bytes ≡ record { records = []; tail = bytes }
 parts_within-broken zero bytes break e = refl
 parts_within-broken (suc m) bytes break e = ap (after_front m bytes) e
 
 -- where one is at the front, it is the first
-pub parts_within-found : (m : ℕ) (e : Entry) (rest : List ℕ) → IsEntry e → length (entry_bytes e ++ rest) ≤ m
-    → (p : Parts) × (parts_within m (entry_bytes e ++ rest) ≡ with_first e p)
-parts_within-found zero e rest h room = absurd (omega (arith, room, length-append (entry_bytes e) rest, length-entry_bytes e))
-parts_within-found (suc m) e rest h room = (parts_within m rest, ap (after_front m (entry_bytes e ++ rest)) (front_of-entry e rest h))
+pub parts_within-found : (m : ℕ) (e : Record) (rest : List ℕ) → IsRecord e → length (record_bytes e ++ rest) ≤ m
+    → (p : Parts) × (parts_within m (record_bytes e ++ rest) ≡ with_first e p)
+parts_within-found zero e rest h room = absurd (omega (arith, room, length-append (record_bytes e) rest, length-record_bytes e))
+parts_within-found (suc m) e rest h room = (parts_within m rest, ap (after_front m (record_bytes e ++ rest)) (front_of-record e rest h))
 
 -- the parts of whole records and others
-pub parts_of-along : (es : List Entry) (rest : List ℕ) → AllByRecursion IsEntry es
-    → (m : ℕ) × (length rest ≤ m) × (parts_of (entries_bytes es ++ rest) ≡ with_all es (parts_within m rest))
+pub parts_of-along : (es : List Record) (rest : List ℕ) → AllByRecursion IsRecord es
+    → (m : ℕ) × (length rest ≤ m) × (parts_of (records_bytes es ++ rest) ≡ with_all es (parts_within m rest))
 unfolding parts_of
-parts_of-along es rest h = parts_along es rest (length (entries_bytes es ++ rest)) h (omega arith)
+parts_of-along es rest h = parts_along es rest (length (records_bytes es ++ rest)) h (omega arith)

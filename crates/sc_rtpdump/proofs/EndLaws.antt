@@ -12,7 +12,7 @@ use Rattle.sc_rtpdump.specs.declared.fault.DumpFault.{DumpFault}
 use Rattle.sc_rtpdump.specs.declared.fault.DumpFault.TheVariants.{Preamble, RecordHead, RecordLength, Truncated, Read, Memory}
 use Rattle.sc_rtpdump.specs.declared.thin.DropFault.{DropFault}
 use Rattle.sc_rtpdump.specs.declared.thin.DropFault.TheVariants.{Dump, More, Fewer, Write}
-use Rattle.sc_rtpdump.specs.Entry.{Entry, entry_bytes, short_head, short_length, cut_body, ends}
+use Rattle.sc_rtpdump.specs.Record.{Record, record_bytes, short_head, short_length, cut_body, ends}
 use Rattle.sc_rtpdump.specs.Thinned.{end_at}
 use Rattle.sc_rtpdump.specs.Readings.{NextGives}
 use Rattle.sc_rtpdump.specs.Thinning.{StepGives, Copied, IsRestDecided, RestGives, GivesRestFront}
@@ -85,7 +85,7 @@ pub write_ends : (flags : List Bool) (a b c : Told) (n : ℕ) (held : List ℕ) 
 write_ends flags a b c n held room h p = (Rose-earlier _ _ _ h.moves.write_faults p.rose, front-part flags a b b c n [] held room h (Takes-none b) p)
 
 -- what reading a record answers, as a step behind which nothing waits
-step_of : (n : ℕ) (lost : Bool) (b c : Told) (e : Entry) (fault : DumpFault) → NextGives n b c (Err fault) e → StepGives n lost b c [] [] (Err (Dump fault))
+step_of : (n : ℕ) (lost : Bool) (b c : Told) (e : Record) (fault : DumpFault) → NextGives n b c (Err fault) e → StepGives n lost b c [] [] (Err (Dump fault))
 step_of n lost b c e (RecordHead i) h = (h.1, record { mid = c; stood = (h.2, h.3); puts = Puts-none c })
 step_of n lost b c e (RecordLength i) h = (h.1, record { mid = c; stood = h.2; puts = Puts-none c })
 step_of n lost b c e (Truncated i) h = (h.1, record { mid = c; stood = (h.2, h.3); puts = Puts-none c })
@@ -93,16 +93,16 @@ step_of n lost b c e Read h = record { mid = c; stood = (h.1, h.2); puts = Puts-
 step_of n lost b c e Preamble h = absurd h
 step_of n lost b c e Memory h = absurd h
 
-pub last_fault : (flags : List Bool) (a b c : Told) (n : ℕ) (e : Entry) (fault : DumpFault) → n ≡ length flags → Copied flags a b n [] → NextGives n b c (Err fault) e
+pub last_fault : (flags : List Bool) (a b c : Told) (n : ℕ) (e : Record) (fault : DumpFault) → n ≡ length flags → Copied flags a b n [] → NextGives n b c (Err fault) e
     → RestGives flags a c (Err (Dump fault)) × GivesRestFront flags a c
 last_fault flags a b c n e fault all h s = dump_ends flags a b c n false [] [] fault (omega arith) h (step_of n false b c e fault s)
 
-pub last_more : (flags : List Bool) (a b c : Told) (n : ℕ) (e : Entry) → n ≡ length flags → Copied flags a b n [] → NextGives n b c (Ok true) e
+pub last_more : (flags : List Bool) (a b c : Told) (n : ℕ) (e : Record) → n ≡ length flags → Copied flags a b n [] → NextGives n b c (Ok true) e
     → RestGives flags a c (Err More) × GivesRestFront flags a c
 last_more flags a b c n e all h s =
-    (decided-more flags a b c c n [] e all h s.0 s.1 (Puts-none c), front-copied flags a b c c n (entry_bytes e) [] (omega arith) h s.1 (Puts-none c))
+    (decided-more flags a b c c n [] e all h s.0 s.1 (Puts-none c), front-copied flags a b c c n (record_bytes e) [] (omega arith) h s.1 (Puts-none c))
 
-pub last_end : (flags : List Bool) (a b c : Told) (n lost : ℕ) (e : Entry) → n ≡ length flags → lost ≡ set_count (take n flags) → Copied flags a b n [] → NextGives n b c (Ok false) e
+pub last_end : (flags : List Bool) (a b c : Told) (n lost : ℕ) (e : Record) → n ≡ length flags → lost ≡ set_count (take n flags) → Copied flags a b n [] → NextGives n b c (Ok false) e
     → RestGives flags a c (Ok (record { records = n; lost = lost })) × GivesRestFront flags a c
 last_end flags a b c n lost e all count h s =
     let same : lost ≡ set_count flags = count ∙ ap set_count (take_all n flags (omega arith)) in (

@@ -2,7 +2,7 @@
 use Rattle.std.proofs.Common.{◌≡◌, ℕ, zero, suc, ◌^◌, ◌<◌, List, [], ◌∷◌, ◌++◌, length, get_or, refl, sym, ap, ◌∙◌, arith}
 use Rattle.std.proofs.lemmas.Nat.{be_bytes_2, be_bytes_4, from_be_bytes-to_be_bytes_2}
 use Rattle.std.specs.Int.{w16, w32, to_be_bytes, from_be_bytes}
-use Rattle.sc_rtpdump.specs.Entry.{head_bytes, length_field}
+use Rattle.sc_rtpdump.specs.Record.{head_bytes, length_field}
 
 -- eight bytes, in the three fields
 abbrev pub fields_of : List ℕ → List ℕ

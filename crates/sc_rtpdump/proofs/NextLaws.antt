@@ -8,23 +8,23 @@ use Rattle.sc_outside.proofs.MovesLaws.{Takes-trans, Puts-trans}
 use Rattle.sc_outside.proofs.WholeLaws.{PutsPart-first, PutsPart-then}
 use Rattle.sc_rtpdump.specs.declared.head.Head.{Head}
 use Rattle.sc_rtpdump.specs.declared.fault.DumpFault.TheVariants.{Truncated, Read}
-use Rattle.sc_rtpdump.specs.Entry.{Entry, entry_bytes, head_bytes, length_field}
+use Rattle.sc_rtpdump.specs.Record.{Record, record_bytes, head_bytes, length_field}
 use Rattle.sc_rtpdump.specs.Readings.{IsHead, FillGives, NextGives}
 use Rattle.sc_rtpdump.proofs.HeadLaws.{length_field-head}
 
 -- how a record is spelled, by a head of its length
-pub entry_bytes-is : (e : Entry) (len plen offset : ℕ) → e ≡ record { plen = plen; offset = offset; body = e.body } → 8 + length e.body ≡ len
-    → entry_bytes e ≡ head_bytes len plen offset ++ e.body
-unfolding entry_bytes
-entry_bytes-is e len plen offset same size =
-    ap (λ (x : Entry). head_bytes (8 + length e.body) x.plen x.offset ++ e.body) same ∙ ap (λ n. head_bytes n plen offset ++ e.body) size
+pub record_bytes-is : (e : Record) (len plen offset : ℕ) → e ≡ record { plen = plen; offset = offset; body = e.body } → 8 + length e.body ≡ len
+    → record_bytes e ≡ head_bytes len plen offset ++ e.body
+unfolding record_bytes
+record_bytes-is e len plen offset same size =
+    ap (λ (x : Record). head_bytes (8 + length e.body) x.plen x.offset ++ e.body) same ∙ ap (λ n. head_bytes n plen offset ++ e.body) size
 
-pub next_found : (index : ℕ) (old mid new : Told) (head : Head) (e : Entry) → Takes old mid (head_bytes head.len head.plen head.offset)
+pub next_found : (index : ℕ) (old mid new : Told) (head : Head) (e : Record) → Takes old mid (head_bytes head.len head.plen head.offset)
     → FillGives mid new head e (Ok true) → NextGives index old new (Ok true) e
 next_found index old mid new head e t f =
-    (f.0, subst (Takes old new) (sym (entry_bytes-is e head.len head.plen head.offset f.2 f.3)) (Takes-trans old mid new _ e.body t f.1))
+    (f.0, subst (Takes old new) (sym (record_bytes-is e head.len head.plen head.offset f.2 f.3)) (Takes-trans old mid new _ e.body t f.1))
 
-pub next_cut : (index : ℕ) (old mid new : Told) (head : Head) (e : Entry) → Takes old mid (head_bytes head.len head.plen head.offset) → IsHead head
+pub next_cut : (index : ℕ) (old mid new : Told) (head : Head) (e : Record) → Takes old mid (head_bytes head.len head.plen head.offset) → IsHead head
     → FillGives mid new head e (Ok false) → NextGives index old new (Err (Truncated index)) e
 next_cut index old mid new head e t h f =
     let front = head_bytes head.len head.plen head.offset in
@@ -41,7 +41,7 @@ next_cut index old mid new head e t h f =
       f.2,
     )
 
-pub next_failed : (index : ℕ) (old mid new : Told) (head : Head) (e : Entry) (d : Failed) → Takes old mid (head_bytes head.len head.plen head.offset) → IsHead head
+pub next_failed : (index : ℕ) (old mid new : Told) (head : Head) (e : Record) (d : Failed) → Takes old mid (head_bytes head.len head.plen head.offset) → IsHead head
     → FillGives mid new head e (Err d) → NextGives index old new (Err Read) e
 next_failed index old mid new head e d t h f =
     let front = head_bytes head.len head.plen head.offset in
@@ -58,18 +58,18 @@ next_failed index old mid new head e d t h f =
     )
 
 -- a record is written as its head and its body
-spelled : (plen offset : ℕ) (body head : List ℕ) → head ≡ head_bytes (8 + length body) plen offset → head ++ body ≡ entry_bytes (record { plen = plen; offset = offset; body = body })
-unfolding entry_bytes
+spelled : (plen offset : ℕ) (body head : List ℕ) → head ≡ head_bytes (8 + length body) plen offset → head ++ body ≡ record_bytes (record { plen = plen; offset = offset; body = body })
+unfolding record_bytes
 spelled plen offset body head e = ap (λ l. l ++ body) e
 
 pub record_whole : (old mid new : Told) (plen offset : ℕ) (body head : List ℕ) → head ≡ head_bytes (8 + length body) plen offset → Puts old mid head → Puts mid new body
-    → Puts old new (entry_bytes (record { plen = plen; offset = offset; body = body }))
+    → Puts old new (record_bytes (record { plen = plen; offset = offset; body = body }))
 record_whole old mid new plen offset body head e p q = subst (Puts old new) (spelled plen offset body head e) (Puts-trans old mid new head body p q)
 
 pub record_first : (old new : Told) (plen offset : ℕ) (body head : List ℕ) → head ≡ head_bytes (8 + length body) plen offset → PutsPart old new head
-    → PutsPart old new (entry_bytes (record { plen = plen; offset = offset; body = body }))
+    → PutsPart old new (record_bytes (record { plen = plen; offset = offset; body = body }))
 record_first old new plen offset body head e p = subst (PutsPart old new) (spelled plen offset body head e) (PutsPart-first old new head body p)
 
 pub record_then : (old mid new : Told) (plen offset : ℕ) (body head : List ℕ) → head ≡ head_bytes (8 + length body) plen offset → Puts old mid head → PutsPart mid new body
-    → PutsPart old new (entry_bytes (record { plen = plen; offset = offset; body = body }))
+    → PutsPart old new (record_bytes (record { plen = plen; offset = offset; body = body }))
 record_then old mid new plen offset body head e p q = subst (PutsPart old new) (spelled plen offset body head e) (PutsPart-then old mid new head body p q)

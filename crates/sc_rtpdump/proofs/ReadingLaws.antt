@@ -6,48 +6,48 @@ use Rattle.std.proofs.Math.Seq.{take-append-add}
 use Rattle.std.specs.Int.{w16, w32, from_be_bytes}
 use Rattle.std.specs.List.{AllByRecursion}
 use Rattle.std.specs.Option.{option_map}
-use Rattle.sc_rtpdump.specs.Entry.{Entry, IsEntry, entry_bytes, head_bytes, length_field, entry_at, Front, ends, breaks, starts, front_of}
+use Rattle.sc_rtpdump.specs.Record.{Record, IsRecord, record_bytes, head_bytes, length_field, record_at, Front, ends, breaks, starts, front_of}
 use Rattle.sc_rtpdump.specs.Lines.{IsOneLine}
 use Rattle.sc_rtpdump.specs.Preamble.{magic, IsPreamble, newline_at, len_with, preamble_len}
-use Rattle.sc_rtpdump.specs.Capture.{entries_bytes, IsCapture, Parts, with_first, parts_within, parts_of, no_preamble, reads, reading_with, reading_of, IsReading, AreBytes, BeginsOtherwise}
-use Rattle.sc_rtpdump.proofs.CaptureLaws.{with_all, after_front, parts_of-along, reading_of-preamble, reading_of-none, front_of-end, front_of-entry, length-entry_bytes, chosen, front_of-is}
+use Rattle.sc_rtpdump.specs.Capture.{records_bytes, IsCapture, Parts, with_first, parts_within, parts_of, no_preamble, reads, reading_with, reading_of, IsReading, AreBytes, BeginsOtherwise}
+use Rattle.sc_rtpdump.proofs.CaptureLaws.{with_all, after_front, parts_of-along, reading_of-preamble, reading_of-none, front_of-end, front_of-record, length-record_bytes, chosen, front_of-is}
 use Rattle.sc_rtpdump.proofs.HeadLaws.{head_bytes-from}
 
 -- whole records before a tail that begins with none are all the parts
-with_all-tail : (es : List Entry) (tail : List ℕ) → with_all es (record { entries = []; tail = tail }) ≡ record { entries = es; tail = tail }
+with_all-tail : (es : List Record) (tail : List ℕ) → with_all es (record { records = []; tail = tail }) ≡ record { records = es; tail = tail }
 with_all-tail [] tail = refl
 with_all-tail (e ∷ es) tail = ap (with_first e) (with_all-tail es tail)
 
-after_none : (m : ℕ) (bytes : List ℕ) (front : Front) → ((e : Entry) (rest : List ℕ) → front ≡ starts e rest → ⊥) → after_front m bytes front ≡ record { entries = []; tail = bytes }
+after_none : (m : ℕ) (bytes : List ℕ) (front : Front) → ((e : Record) (rest : List ℕ) → front ≡ starts e rest → ⊥) → after_front m bytes front ≡ record { records = []; tail = bytes }
 after_none m bytes ends h = refl
 after_none m bytes (breaks break) h = refl
 after_none m bytes (starts e rest) h = absurd (h e rest refl)
 
-tail_only : (m : ℕ) (tail : List ℕ) → ((e : Entry) (rest : List ℕ) → front_of tail ≡ starts e rest → ⊥) → parts_within m tail ≡ record { entries = []; tail = tail }
+tail_only : (m : ℕ) (tail : List ℕ) → ((e : Record) (rest : List ℕ) → front_of tail ≡ starts e rest → ⊥) → parts_within m tail ≡ record { records = []; tail = tail }
 tail_only zero tail h = refl
 tail_only (suc m) tail h = after_none m tail (front_of tail) h
 
 pub reading_of-only : (bytes preamble : List ℕ) (parts : Parts) → IsReading bytes preamble parts → reading_of bytes ≡ reads preamble parts
 reading_of-only bytes preamble parts h =
-    let es = parts.entries in
+    let es = parts.records in
     let tail = parts.tail in
-    let along = parts_of-along es tail h.entries_are in
+    let along = parts_of-along es tail h.records_are in
     ap reading_of h.spelled
-    ∙ reading_of-preamble preamble (entries_bytes es ++ tail) h.preamble_is
+    ∙ reading_of-preamble preamble (records_bytes es ++ tail) h.preamble_is
     ∙ ap (reads preamble) (along.2 ∙ ap (with_all es) (tail_only along.0 tail h.ended) ∙ with_all-tail es tail)
 
-empty_ends : (e : Entry) (rest : List ℕ) → front_of [] ≡ starts e rest → ⊥
+empty_ends : (e : Record) (rest : List ℕ) → front_of [] ≡ starts e rest → ⊥
 empty_ends e rest h = let same : ends ≡ starts e rest = sym (front_of-end [] refl) ∙ h in cc
 
 -- a capture is read as its preamble and its records, with nothing behind them
-pub reading_of-capture : (bytes preamble : List ℕ) (entries : List Entry) → IsCapture bytes preamble entries
-    → reading_of bytes ≡ reads preamble (record { entries = entries; tail = [] })
-reading_of-capture bytes preamble entries h =
-    reading_of-only bytes preamble (record { entries = entries; tail = [] }) (
+pub reading_of-capture : (bytes preamble : List ℕ) (records : List Record) → IsCapture bytes preamble records
+    → reading_of bytes ≡ reads preamble (record { records = records; tail = [] })
+reading_of-capture bytes preamble records h =
+    reading_of-only bytes preamble (record { records = records; tail = [] }) (
     record {
       preamble_is = h.preamble_is;
-      entries_are = h.entries_are;
-      spelled = h.parts ∙ ap (λ l. preamble ++ l) (sym (append-nil (entries_bytes entries)));
+      records_are = h.records_are;
+      spelled = h.parts ∙ ap (λ l. preamble ++ l) (sym (append-nil (records_bytes records)));
       ended = empty_ends;
     }
     )
@@ -214,12 +214,12 @@ between (suc m) (suc n) [] h = refl
 between (suc m) (suc n) (x ∷ xs) h = between m n xs (omega arith)
 
 -- as many bytes as the length says are a record
-entry_there : (bytes : List ℕ) → AreBytes bytes → 8 ≤ length bytes → 8 ≤ length_field bytes → length_field bytes ≤ length bytes
-    → IsEntry (entry_at bytes) × (bytes ≡ entry_bytes (entry_at bytes) ++ drop (length_field bytes) bytes)
-unfolding entry_bytes
-entry_there bytes fits eight least within =
+record_there : (bytes : List ℕ) → AreBytes bytes → 8 ≤ length bytes → 8 ≤ length_field bytes → length_field bytes ≤ length bytes
+    → IsRecord (record_at bytes) × (bytes ≡ record_bytes (record_at bytes) ++ drop (length_field bytes) bytes)
+unfolding record_bytes
+record_there bytes fits eight least within =
     let len = length_field bytes in
-    let e = entry_at bytes in
+    let e = record_at bytes in
     let head = head_there bytes eight fits in
     let count : 8 + length e.body ≡ length_field bytes = omega (arith, length-drop 8 (take len bytes), length-take len bytes, least, within) in (
       record { plen = head.plen; offset = head.offset; body = omega (arith, count, head.field) },
@@ -229,7 +229,7 @@ entry_there bytes fits eight least within =
           ∙ sym (append_assoc (head_bytes (8 + length e.body) e.plen e.offset) e.body (drop len bytes)),
     )
 
-chosen-starts : (a b c d : Bool) (x e : Entry) (y r : List ℕ) → chosen a b c d x y ≡ starts e r → (b ≡ false) × (c ≡ false) × (d ≡ false) × (x ≡ e) × (y ≡ r)
+chosen-starts : (a b c d : Bool) (x e : Record) (y r : List ℕ) → chosen a b c d x y ≡ starts e r → (b ≡ false) × (c ≡ false) × (d ≡ false) × (x ≡ e) × (y ≡ r)
 chosen-starts true b c d x e y r h = absurd (cc)
 chosen-starts false true c d x e y r h = absurd (cc)
 chosen-starts false false true d x e y r h = absurd (cc)
@@ -237,24 +237,24 @@ chosen-starts false false false true x e y r h = absurd (cc)
 chosen-starts false false false false x e y r h = (refl, refl, refl, cc, cc)
 
 -- a record that is found is there
-front_sound : (bytes : List ℕ) (e : Entry) (rest : List ℕ) → AreBytes bytes → front_of bytes ≡ starts e rest → IsEntry e × (bytes ≡ entry_bytes e ++ rest)
+front_sound : (bytes : List ℕ) (e : Record) (rest : List ℕ) → AreBytes bytes → front_of bytes ≡ starts e rest → IsRecord e × (bytes ≡ record_bytes e ++ rest)
 front_sound bytes e rest fits h =
     let len = length_field bytes in
-    let found = chosen-starts _ _ _ _ (entry_at bytes) e (drop len bytes) rest (sym (front_of-is bytes) ∙ h) in
-    let there = entry_there bytes fits (ltb-false _ _ found.0) (ltb-false _ _ found.1) (ltb-false _ _ found.2) in
-    (subst IsEntry found.3 there.0, there.1 ∙ ap (λ x. entry_bytes x ++ drop len bytes) found.3 ∙ ap (λ l. entry_bytes e ++ l) found.4)
+    let found = chosen-starts _ _ _ _ (record_at bytes) e (drop len bytes) rest (sym (front_of-is bytes) ∙ h) in
+    let there = record_there bytes fits (ltb-false _ _ found.0) (ltb-false _ _ found.1) (ltb-false _ _ found.2) in
+    (subst IsRecord found.3 there.0, there.1 ∙ ap (λ x. record_bytes x ++ drop len bytes) found.3 ∙ ap (λ l. record_bytes e ++ l) found.4)
 
-pub front_of-exact : (bytes : List ℕ) (e : Entry) (rest : List ℕ) → AreBytes bytes → (front_of bytes ≡ starts e rest) ↔ (IsEntry e × (bytes ≡ entry_bytes e ++ rest))
-front_of-exact bytes e rest fits = (front_sound bytes e rest fits, λ h. ap front_of h.1 ∙ front_of-entry e rest h.0)
+pub front_of-exact : (bytes : List ℕ) (e : Record) (rest : List ℕ) → AreBytes bytes → (front_of bytes ≡ starts e rest) ↔ (IsRecord e × (bytes ≡ record_bytes e ++ rest))
+front_of-exact bytes e rest fits = (front_sound bytes e rest fits, λ h. ap front_of h.1 ∙ front_of-record e rest h.0)
 
 -- the whole records at the front of bytes, and a tail that begins with none
 record IsParts (bytes : List ℕ) (parts : Parts) : Type 0 where
-  entries_are : AllByRecursion IsEntry parts.entries
-  spelled : bytes ≡ entries_bytes parts.entries ++ parts.tail
-  ended : (e : Entry) (rest : List ℕ) → front_of parts.tail ≡ starts e rest → ⊥
+  records_are : AllByRecursion IsRecord parts.records
+  spelled : bytes ≡ records_bytes parts.records ++ parts.tail
+  ended : (e : Record) (rest : List ℕ) → front_of parts.tail ≡ starts e rest → ⊥
 
-parts_ended : (bytes : List ℕ) → ((e : Entry) (rest : List ℕ) → front_of bytes ≡ starts e rest → ⊥) → IsParts bytes (record { entries = []; tail = bytes })
-parts_ended bytes h = record { entries_are = tt; spelled = refl; ended = h }
+parts_ended : (bytes : List ℕ) → ((e : Record) (rest : List ℕ) → front_of bytes ≡ starts e rest → ⊥) → IsParts bytes (record { records = []; tail = bytes })
+parts_ended bytes h = record { records_are = tt; spelled = refl; ended = h }
 
 parts_step : (n : ℕ) (bytes : List ℕ) (front : Front) → front_of bytes ≡ front → AreBytes bytes → length bytes ≤ suc n
     → ((rest : List ℕ) → AreBytes rest → length rest ≤ n → IsParts rest (parts_within n rest)) → IsParts bytes (after_front n bytes front)
@@ -262,12 +262,12 @@ parts_step n bytes ends at fits room more = parts_ended bytes (λ e rest h. let 
 parts_step n bytes (breaks break) at fits room more = parts_ended bytes (λ e rest h. let same : breaks break ≡ starts e rest = sym at ∙ h in cc)
 parts_step n bytes (starts e rest) at fits room more =
     let first = front_sound bytes e rest fits at in
-    let less : length rest ≤ n = omega (arith, room, ap length first.1, length-append (entry_bytes e) rest, length-entry_bytes e) in
-    let behind = more rest (fits_back (entry_bytes e) rest (subst AreBytes first.1 fits)) less in
+    let less : length rest ≤ n = omega (arith, room, ap length first.1, length-append (record_bytes e) rest, length-record_bytes e) in
+    let behind = more rest (fits_back (record_bytes e) rest (subst AreBytes first.1 fits)) less in
     let parts = parts_within n rest in
     record {
-      entries_are = (first.0, behind.entries_are);
-      spelled = first.1 ∙ ap (λ l. entry_bytes e ++ l) behind.spelled ∙ sym (append_assoc (entry_bytes e) (entries_bytes parts.entries) parts.tail);
+      records_are = (first.0, behind.records_are);
+      spelled = first.1 ∙ ap (λ l. record_bytes e ++ l) behind.spelled ∙ sym (append_assoc (record_bytes e) (records_bytes parts.records) parts.tail);
       ended = behind.ended;
     }
 
@@ -299,7 +299,7 @@ sound_by bytes preamble parts (Some n) e fits h =
     let there = subst (IsParts back) behind (parts_of-sound back (fits_back front back (subst AreBytes (sym (take-append-drop n bytes)) fits))) in
     record {
       preamble_is = subst IsPreamble first (preamble_front bytes n e);
-      entries_are = there.entries_are;
+      records_are = there.records_are;
       spelled = sym (take-append-drop n bytes) ∙ ap (λ l. l ++ back) first ∙ ap (λ l. preamble ++ l) there.spelled;
       ended = there.ended;
     }

@@ -1,34 +1,34 @@
 -- Captures: a preamble and any number of records, with nothing after them.
 use Rattle.std.specs.Prelude.{◌≡◌, ℕ, zero, suc, ◌<◌, Option, Some, None, List, [], ◌∷◌, ◌++◌, length, take, drop, slice_index}
 use Rattle.std.specs.List.{AllByRecursion, flat_map}
-use Rattle.sc_rtpdump.specs.Entry.{Entry, IsEntry, entry_bytes, ends, breaks, starts, front_of}
+use Rattle.sc_rtpdump.specs.Record.{Record, IsRecord, record_bytes, ends, breaks, starts, front_of}
 use Rattle.sc_rtpdump.specs.Preamble.{IsPreamble, preamble_len}
 
 -- how records are spelled, one after the other
-abbrev pub entries_bytes : List Entry → List ℕ
-entries_bytes entries = flat_map entry_bytes entries
+abbrev pub records_bytes : List Record → List ℕ
+records_bytes records = flat_map record_bytes records
 
 -- bytes are a capture: this preamble and these records
-pub record IsCapture (bytes preamble : List ℕ) (entries : List Entry) : Type 0 where
+pub record IsCapture (bytes preamble : List ℕ) (records : List Record) : Type 0 where
   pub preamble_is : IsPreamble preamble
-  pub entries_are : AllByRecursion IsEntry entries
-  pub parts : bytes ≡ preamble ++ entries_bytes entries
+  pub records_are : AllByRecursion IsRecord records
+  pub parts : bytes ≡ preamble ++ records_bytes records
 
 -- the whole records at the front of bytes, and what stands behind them: nothing, or what begins with no record
 pub record Parts : Type 0 where
-  pub entries : List Entry
+  pub records : List Record
   pub tail : List ℕ
 
-abbrev pub with_first : Entry → Parts → Parts
-with_first entry parts = record { entries = entry ∷ parts.entries; tail = parts.tail }
+abbrev pub with_first : Record → Parts → Parts
+with_first rec parts = record { records = rec ∷ parts.records; tail = parts.tail }
 
 -- the first so many of the records
 abbrev pub parts_within : ℕ → List ℕ → Parts
-parts_within zero bytes = record { entries = []; tail = bytes }
+parts_within zero bytes = record { records = []; tail = bytes }
 parts_within (suc n) bytes = elim (front_of bytes) as (λ _. Parts) [
-  | ends ↦ record { entries = []; tail = bytes }
-  | breaks break ↦ record { entries = []; tail = bytes }
-  | starts entry rest ↦ with_first entry (parts_within n rest)
+  | ends ↦ record { records = []; tail = bytes }
+  | breaks break ↦ record { records = []; tail = bytes }
+  | starts rec rest ↦ with_first rec (parts_within n rest)
 ]
 
 -- all of them: there are fewer records than bytes
@@ -54,9 +54,9 @@ AreBytes bytes = (i : ℕ) → slice_index bytes i < 256
 -- bytes are a preamble, whole records, and what begins with no record
 pub record IsReading (bytes preamble : List ℕ) (parts : Parts) : Type 0 where
   pub preamble_is : IsPreamble preamble
-  pub entries_are : AllByRecursion IsEntry parts.entries
-  pub spelled : bytes ≡ preamble ++ (entries_bytes parts.entries ++ parts.tail)
-  pub ended : (e : Entry) (rest : List ℕ) → front_of parts.tail ≡ starts e rest → ⊥
+  pub records_are : AllByRecursion IsRecord parts.records
+  pub spelled : bytes ≡ preamble ++ (records_bytes parts.records ++ parts.tail)
+  pub ended : (e : Record) (rest : List ℕ) → front_of parts.tail ≡ starts e rest → ⊥
 
 -- no preamble is at the front of bytes
 abbrev pub BeginsOtherwise : List ℕ → Type 0

@@ -1,6 +1,6 @@
 pub mod Buffer
 pub mod Capture
-pub mod Entry
+pub mod Record
 pub mod Held
 pub mod Lines
 pub mod OneReading

@@ -1,12 +1,12 @@
 -- What is said of the one reading of bytes: it is the one that the grammar gives.
 use Rattle.std.specs.Prelude.{◌≡◌, ◌↔◌, List, ℕ, [], ◌++◌}
-use Rattle.sc_rtpdump.specs.Entry.{Entry, IsEntry, entry_bytes, starts, front_of}
+use Rattle.sc_rtpdump.specs.Record.{Record, IsRecord, record_bytes, starts, front_of}
 use Rattle.sc_rtpdump.specs.Capture.{IsCapture, Parts, reads, no_preamble, reading_of, AreBytes, IsReading, BeginsOtherwise}
 
 -- a capture is read as its preamble and its records, with nothing behind them
 abbrev pub CapturesAreRead : Type 0
-CapturesAreRead = (bytes preamble : List ℕ) (entries : List Entry) → IsCapture bytes preamble entries
-    → reading_of bytes ≡ reads preamble (record { entries = entries; tail = [] })
+CapturesAreRead = (bytes preamble : List ℕ) (records : List Record) → IsCapture bytes preamble records
+    → reading_of bytes ≡ reads preamble (record { records = records; tail = [] })
 
 -- what is read of bytes is there
 abbrev pub ReadingsAreThere : Type 0
@@ -22,4 +22,4 @@ NoneIsExact = (bytes : List ℕ) → (reading_of bytes ≡ no_preamble) ↔ Begi
 
 -- a record is found exactly where bytes begin with its spelling
 abbrev pub FrontIsExact : Type 0
-FrontIsExact = (bytes : List ℕ) (e : Entry) (rest : List ℕ) → AreBytes bytes → (front_of bytes ≡ starts e rest) ↔ (IsEntry e × (bytes ≡ entry_bytes e ++ rest))
+FrontIsExact = (bytes : List ℕ) (e : Record) (rest : List ℕ) → AreBytes bytes → (front_of bytes ≡ starts e rest) ↔ (IsRecord e × (bytes ≡ record_bytes e ++ rest))

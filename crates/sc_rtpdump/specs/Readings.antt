@@ -7,7 +7,7 @@ use Rattle.sc_outside.specs.Port.{Told, Takes}
 use Rattle.sc_rtpdump.specs.declared.fault.DumpFault.{DumpFault}
 use Rattle.sc_rtpdump.specs.declared.fault.DumpFault.TheVariants.{Preamble, RecordHead, RecordLength, Truncated, Read, Memory}
 use Rattle.sc_rtpdump.specs.declared.head.Head.{Head}
-use Rattle.sc_rtpdump.specs.Entry.{Entry, IsEntry, empty_entry, entry_bytes, head_bytes, length_field}
+use Rattle.sc_rtpdump.specs.Record.{Record, IsRecord, empty_record, record_bytes, head_bytes, length_field}
 use Rattle.sc_rtpdump.specs.Preamble.{IsPreamble, preamble_len}
 
 -- some bytes were taken, of which P holds
@@ -65,13 +65,13 @@ BodyGives old new body (Err e) = TakesSome old new (λ bytes. length bytes < len
 
 -- What reading a record behind its head answers, and what the record is then: true with the record that the head and the
 -- body spell, false where the input ends before. At all but true it is empty.
-abbrev pub FillGives : Told → Told → Head → Entry → Result Bool Failed → Type 0
-FillGives old new head entry (Ok true) =
-    IsEntry entry × Takes old new entry.body × (entry ≡ record { plen = head.plen; offset = head.offset; body = entry.body }) × (8 + length entry.body ≡ head.len)
-FillGives old new head entry (Ok false) =
-    (entry ≡ empty_entry) × TakesSome old new (λ bytes. 8 + length bytes < head.len) × IsAtEnd new.left
-FillGives old new head entry (Err e) =
-    (entry ≡ empty_entry) × TakesSome old new (λ bytes. 8 + length bytes < head.len) × Rose old.read_faults new.read_faults
+abbrev pub FillGives : Told → Told → Head → Record → Result Bool Failed → Type 0
+FillGives old new head rec (Ok true) =
+    IsRecord rec × Takes old new rec.body × (rec ≡ record { plen = head.plen; offset = head.offset; body = rec.body }) × (8 + length rec.body ≡ head.len)
+FillGives old new head rec (Ok false) =
+    (rec ≡ empty_record) × TakesSome old new (λ bytes. 8 + length bytes < head.len) × IsAtEnd new.left
+FillGives old new head rec (Err e) =
+    (rec ≡ empty_record) × TakesSome old new (λ bytes. 8 + length bytes < head.len) × Rose old.read_faults new.read_faults
 
 -- What reading the head of the record of this number answers: the head, exactly whose bytes were taken, with a length of
 -- 8 or more, and `None` at the end of the input.
@@ -89,15 +89,15 @@ HeadGives index old new (Err Memory) = ⊥
 -- exactly whose bytes were taken, and false at the end of the input. `RecordHead` comes where one to seven bytes are
 -- left, `RecordLength` where the length is below 8, `Truncated` where the input ends inside the body, and `Read` where
 -- a read failed before a whole record was taken. At all but true the record is empty.
-abbrev pub NextGives : ℕ → Told → Told → Result Bool DumpFault → Entry → Type 0
-NextGives index old new (Ok true) entry = IsEntry entry × Takes old new (entry_bytes entry)
-NextGives index old new (Ok false) entry = (entry ≡ empty_entry) × Takes old new [] × IsAtEnd new.left
-NextGives index old new (Err (RecordHead i)) entry = (entry ≡ empty_entry) × (i ≡ index) × TakesSome old new IsPartHead × IsAtEnd new.left
-NextGives index old new (Err (RecordLength i)) entry = (entry ≡ empty_entry) × (i ≡ index) × TakesSome old new IsHeadTooShort
-NextGives index old new (Err (Truncated i)) entry = (entry ≡ empty_entry) × (i ≡ index) × TakesSome old new IsPartBody × IsAtEnd new.left
-NextGives index old new (Err Read) entry = (entry ≡ empty_entry) × TakesSome old new IsBelowRecord × Rose old.read_faults new.read_faults
-NextGives index old new (Err Preamble) entry = ⊥
-NextGives index old new (Err Memory) entry = ⊥
+abbrev pub NextGives : ℕ → Told → Told → Result Bool DumpFault → Record → Type 0
+NextGives index old new (Ok true) rec = IsRecord rec × Takes old new (record_bytes rec)
+NextGives index old new (Ok false) rec = (rec ≡ empty_record) × Takes old new [] × IsAtEnd new.left
+NextGives index old new (Err (RecordHead i)) rec = (rec ≡ empty_record) × (i ≡ index) × TakesSome old new IsPartHead × IsAtEnd new.left
+NextGives index old new (Err (RecordLength i)) rec = (rec ≡ empty_record) × (i ≡ index) × TakesSome old new IsHeadTooShort
+NextGives index old new (Err (Truncated i)) rec = (rec ≡ empty_record) × (i ≡ index) × TakesSome old new IsPartBody × IsAtEnd new.left
+NextGives index old new (Err Read) rec = (rec ≡ empty_record) × TakesSome old new IsBelowRecord × Rose old.read_faults new.read_faults
+NextGives index old new (Err Preamble) rec = ⊥
+NextGives index old new (Err Memory) rec = ⊥
 
 -- a front of a text was given
 pub record GivesFront (old new : Told) (text : List ℕ) : Type 0 where

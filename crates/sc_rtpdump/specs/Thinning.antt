@@ -9,18 +9,18 @@ use Rattle.sc_rtpdump.specs.declared.fault.DumpFault.TheVariants.{Preamble, Reco
 use Rattle.sc_rtpdump.specs.declared.thin.DropFault.{DropFault}
 use Rattle.sc_rtpdump.specs.declared.thin.DropFault.TheVariants.{Dump, More, Fewer, Write}
 use Rattle.sc_rtpdump.specs.declared.thin.Dropped.{Dropped}
-use Rattle.sc_rtpdump.specs.Entry.{Entry, IsEntry, entry_bytes}
-use Rattle.sc_rtpdump.specs.Capture.{entries_bytes, parts_of, reading_of}
+use Rattle.sc_rtpdump.specs.Record.{Record, IsRecord, record_bytes}
+use Rattle.sc_rtpdump.specs.Capture.{records_bytes, parts_of, reading_of}
 use Rattle.sc_rtpdump.specs.Thinned.{kept, rest_end, rest_text, thin_end, thin_text}
 use Rattle.sc_rtpdump.specs.Readings.{TakesSome, IsPartHead, IsHeadTooShort, IsPartBody, IsBelowRecord, GivesFront}
 
 -- a record was taken. Unless it is lost it is put behind the bytes that waited; a front of all that was written, and the rest waits
 pub record Copies (old new : Told) (lost : Bool) (held now : List ℕ) : Type 0 where
-  pub entry : Entry
-  pub fits : IsEntry entry
+  pub rec : Record
+  pub fits : IsRecord rec
   pub put : List ℕ
-  pub moves : Moves old new (entry_bytes entry) put
-  pub parts : held ++ entries_bytes (kept (lost ∷ []) (entry ∷ [])) ≡ put ++ now
+  pub moves : Moves old new (record_bytes rec) put
+  pub parts : held ++ records_bytes (kept (lost ∷ []) (rec ∷ [])) ≡ put ++ now
 
 -- some bytes were taken, and then a front written of those that waited, that isn't the whole
 pub record WritesPart (old new : Told) (held : List ℕ) : Type 0 where
@@ -50,12 +50,12 @@ StepGives index lost old new held now (Err (Dump Memory)) = ⊥
 
 -- So many whole records were taken. Of those the ones whose flag isn't set were written, but for the bytes that wait.
 pub record Copied (flags : List Bool) (old new : Told) (n : ℕ) (held : List ℕ) : Type 0 where
-  pub entries : List Entry
-  pub fit : AllByRecursion IsEntry entries
-  pub count : length entries ≡ n
+  pub records : List Record
+  pub fit : AllByRecursion IsRecord records
+  pub count : length records ≡ n
   pub put : List ℕ
-  pub moves : Moves old new (entries_bytes entries) put
-  pub parts : entries_bytes (kept (take n flags) entries) ≡ put ++ held
+  pub moves : Moves old new (records_bytes records) put
+  pub parts : records_bytes (kept (take n flags) records) ≡ put ++ held
 
 -- the records and the tail that were left decided the answer, and the text that is due was given
 abbrev pub IsRestDecided : List Bool → Told → Told → Result Dropped DropFault → Type 0

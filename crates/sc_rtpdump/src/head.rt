@@ -1,6 +1,6 @@
 //! The eight bytes before a record's body.
 ghost use Rattle.std.specs.Prelude.{◌≡◌};
-ghost use Rattle.sc_rtpdump.specs.Entry.{head_bytes};
+ghost use Rattle.sc_rtpdump.specs.Record.{head_bytes};
 ghost use Rattle.sc_rtpdump.specs.Readings.{HeadGives, IsHead};
 
 use super::fault::DumpFault;

@@ -2,7 +2,7 @@
 ghost use Rattle.std.specs.Prelude.{◌≤◌, length, OnOk, OnErr};
 ghost use Rattle.sc_outside.specs.Port.{Puts};
 ghost use Rattle.sc_outside.specs.Whole.{PutsPart};
-ghost use Rattle.sc_rtpdump.specs.Entry.{entry_bytes};
+ghost use Rattle.sc_rtpdump.specs.Record.{record_bytes};
 ghost use Rattle.sc_rtpdump.specs.Readings.{NextGives};
 
 use super::fault::DumpFault;
@@ -44,9 +44,9 @@ pub fn write_record<P: Port>(
 ) -> Result<(), Failed>
     requires { length body.now ≤ 65527 }
     ensures ok { OnOk result (Puts (P.told port.old) (P.told port.new)
-        (entry_bytes (record { plen = plen; offset = offset; body = body.now }))) }
+        (record_bytes (record { plen = plen; offset = offset; body = body.now }))) }
     ensures err { OnErr result (PutsPart (P.told port.old) (P.told port.new)
-        (entry_bytes (record { plen = plen; offset = offset; body = body.now }))) }
+        (record_bytes (record { plen = plen; offset = offset; body = body.now }))) }
 {
     let len = (HEAD + body.len()) as u16;
     let head = Head { len, plen, offset };

@@ -1,6 +1,6 @@
 //! A record of a capture, in a buffer with room for every record.
 ghost use Rattle.std.specs.Prelude.{◌≡◌, ◌≤◌, ◌<◌, ◌+◌, ◌-◌, ◌++◌, length, vec_len, take, drop, IfOk};
-ghost use Rattle.sc_rtpdump.specs.Entry.{IsEntry, empty_entry, entry_bytes, head_bytes};
+ghost use Rattle.sc_rtpdump.specs.Record.{IsRecord, empty_record, record_bytes, head_bytes};
 ghost use Rattle.sc_rtpdump.specs.Readings.{BodyGives, FillGives, IsHead};
 
 use super::head::{HEAD, Head};
@@ -24,15 +24,15 @@ pub struct DumpRecord {
 }
 
 impl Model for DumpRecord {
-    ghost use Rattle.sc_rtpdump.specs.Entry.{Entry};
+    ghost use Rattle.sc_rtpdump.specs.Record.{Record};
 
-    ghost Value = { Entry };
+    ghost Value = { Record };
 
-    ghost use Rattle.sc_rtpdump.specs.Buffer.{entry_in, HoldsEntry};
+    ghost use Rattle.sc_rtpdump.specs.Buffer.{record_in, HoldsRecord};
 
-    ghost view = { λ r. entry_in r.plen r.offset r.len r.bytes.items };
+    ghost view = { λ r. record_in r.plen r.offset r.len r.bytes.items };
 
-    ghost invariant = { λ r. HoldsEntry r.plen r.offset r.len r.bytes.items };
+    ghost invariant = { λ r. HoldsRecord r.plen r.offset r.len r.bytes.items };
 }
 
 /// A buffer of so many bytes.
@@ -73,7 +73,7 @@ fn read_body<P: Port>(port: &mut P, bytes: &mut Vec<u8>, len: usize) -> Result<b
 impl DumpRecord {
     /// An empty record. It reserves the room for every record.
     pub fn start(alloc: Global) -> Result<DumpRecord, NoMemory>
-        ensures { IfOk result (λ entry. entry ≡ empty_entry) }
+        ensures { IfOk result (λ entry. entry ≡ empty_record) }
     {
         let mut bytes = zeros(alloc, LONGEST)?;
         set_head(&mut bytes, Head::EMPTY);
@@ -87,7 +87,7 @@ impl DumpRecord {
 
     /// Makes the record empty.
     pub(crate) fn clear(&mut self)
-        ensures { self.new ≡ empty_entry }
+        ensures { self.new ≡ empty_record }
     {
         set_head(&mut self.bytes, Head::EMPTY);
         self.plen = 0;
@@ -98,7 +98,7 @@ impl DumpRecord {
     /// Reads the body of an empty record whose head is known. False where the input ends before the body does; after
     /// that, and after `Failed`, the record is empty still.
     pub(crate) fn fill<P: Port>(&mut self, port: &mut P, head: Head) -> Result<bool, Failed>
-        requires empty { self.old ≡ empty_entry }
+        requires empty { self.old ≡ empty_record }
         requires length { 8 ≤ head.len }
         requires fits { IsHead head }
         ensures { FillGives (P.told port.old) (P.told port.new) head self.new result }
@@ -137,8 +137,8 @@ impl DumpRecord {
 
     /// The whole record as it stands in a capture.
     pub fn bytes(&self) -> &[u8]
-        ensures bytes { result.now ≡ entry_bytes self.now }
-        ensures fits { IsEntry self.now }
+        ensures bytes { result.now ≡ record_bytes self.now }
+        ensures fits { IsRecord self.now }
     {
         &self.bytes[..self.len]
     }

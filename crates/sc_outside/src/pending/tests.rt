@@ -63,7 +63,7 @@ fn makes_way(rt: HostRuntime) -> Result<(), Fail> {
         let mut port = small_port(rt.alloc(), fails)?;
         pending.push(b"xyzuvw");
         pending.truncate(3);
-        assert_eq!(rt; pending.make_way(&mut port, n), answer, "{n}, {fails:?}");
+        assert_eq!(rt; pending.make_way(&mut port, n, n), answer, "{n}, {fails:?}");
         assert_eq!(rt; pending.bytes(), waiting, "{n}, {fails:?}");
         assert_eq!(rt; port.journal(), journal, "{n}, {fails:?}");
     }
@@ -78,9 +78,9 @@ fn fills_the_room(rt: HostRuntime) -> Result<(), Fail> {
     let mut port = MemoryPort::new(rt.alloc(), input, Pending::ROOM, 9, usize::MAX, none)?;
     let mut pending = Pending::new(rt.alloc())?;
     assert_eq!(rt; pending.take_in(&mut port, Pending::ROOM), Ok(true));
-    assert_eq!(rt; pending.make_way(&mut port, 0), Ok(()));
+    assert_eq!(rt; pending.make_way(&mut port, 0, 0), Ok(()));
     assert_eq!(rt; pending.len(), Pending::ROOM);
-    assert_eq!(rt; pending.make_way(&mut port, 1), Ok(()));
+    assert_eq!(rt; pending.make_way(&mut port, 1, 1), Ok(()));
     assert_eq!(rt; pending.len(), 0);
     let journal = [Read(Pending::ROOM), Written(Pending::ROOM)];
     assert_eq!(rt; port.journal(), journal.as_slice());

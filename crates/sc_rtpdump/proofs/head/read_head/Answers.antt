@@ -1,6 +1,6 @@
 use Rattle.std.proofs.Common.{◌≡◌, length, refl, ap, subst, arith, take_all}
 use Rattle.sc_outside.specs.Port.{Takes}
-use Rattle.sc_rtpdump.specs.Entry.{length_field}
+use Rattle.sc_rtpdump.specs.Record.{length_field}
 use Rattle.sc_rtpdump.proofs.HeadLaws.{length_field-spelled}
 use Rattle.sc_rtpdump.proofs.head.read_head.Goals as goal
 

@@ -1,7 +1,7 @@
 -- Flag i enters the last w flags, and flag i - w leaves them.
 use Rattle.std.proofs.Common.{arith}
 use Rattle.sc_channel.proofs.Sweeping.{recent_sums}
-use Rattle.sc_channel.proofs.windows.recent_count.Goals as goal
+use Rattle.sc_channel.proofs.loss.recent_count.Goals as goal
 
 pub overflow_sub-result : goal.overflow_sub-result
 overflow_sub-result c =

@@ -4,9 +4,8 @@ use Rattle.std.proofs.lemmas.Bool.{leb-true, le-leb, cases_lt}
 use Rattle.std.specs.Option.{option_map}
 use Rattle.sc_channel.specs.Channel.{ChannelNumbers}
 use Rattle.sc_channel.specs.Flags.{set_count, span, window}
-use Rattle.sc_channel.specs.Loss.{IsFine, few, close, AllWindowsFine, IsAdmissible, IsFirstBadWindow}
-use Rattle.sc_channel.proofs.FineParts.{IsAdmissible-no_bad}
-use Rattle.streamcode.specs.Due.{is_fine, bad_window}
+use Rattle.sc_channel.specs.Loss.{IsFine, few, close, AllWindowsFine, IsAdmissible, IsFirstBadWindow, is_fine, bad_window}
+use Rattle.sc_channel.proofs.FineParts.{IsAdmissible-from_windows, IsAdmissible-no_bad}
 
 or_cases : (a b : Bool) → (a || b) ≡ true → (a ≡ true) ⊎ (b ≡ true)
 or_cases true b h = inl refl
@@ -91,3 +90,10 @@ bad_window-is c flags result h = same result (bad_window c flags) h (λ e. bad_w
         first i j x y (inl less) other = absurd (x.bad (y.earlier_fine i less))
         first i j x y (inr least) (inl less) = absurd (y.bad (x.earlier_fine j less))
         first i j x y (inr least) (inr most) = omega arith
+
+-- admissible exactly where none is found
+pub bad_window-admissible : (c : ChannelNumbers) (flags : List Bool) → IsAdmissible c flags → bad_window c flags ≡ None
+bad_window-admissible c flags h = bad_window-is c flags None h
+
+pub admissible-no_bad_window : (c : ChannelNumbers) (flags : List Bool) → bad_window c flags ≡ None → IsAdmissible c flags
+admissible-no_bad_window c flags e = IsAdmissible-from_windows c flags (bad_window-none c flags e)

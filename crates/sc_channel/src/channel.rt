@@ -1,11 +1,17 @@
 //! A channel: the four numbers of the sliding-window erasure channel, within this project's limits.
 
-ghost use Rattle.std.specs.Prelude.{◌≡◌, ◌<◌, ◌⊎◌, ◌↔◌, IsOk, IfOk};
-ghost use Rattle.sc_channel.specs.Channel.{IsOrdered, IsChannel};
+ghost use Rattle.std.specs.Prelude.{◌≡◌, ◌<◌, ◌⊎◌, ◌↔◌, true, IsOk, IfOk};
+ghost use Rattle.sc_channel.specs.Channel.{ChannelNumbers, IsOrdered, IsChannel, is_channel};
 
 use std::error::Error;
 use std::fmt;
 use std::marker::Model;
+
+/// The longest window, in slots.
+pub const MAX_WINDOW: u32 = 255;
+
+/// The greatest deadline, in slots.
+pub const MAX_DEADLINE: u32 = 40;
 
 /// The sliding-window erasure channel after Badr and others, with a deadline.
 ///
@@ -53,23 +59,18 @@ impl fmt::Display for BadChannel {
 impl Error for BadChannel {}
 
 impl Channel {
-    /// The greatest window, in slots.
-    const MAX_WINDOW: u32 = 255;
-    /// The greatest deadline, in slots.
-    const MAX_DEADLINE: u32 = 40;
-
     /// The channel with windows of `w` slots, spans of at most `b` slots, at most `n` erasures
     /// anywhere in a window, and the deadline `t` in slots.
     pub fn new(w: u32, b: u32, n: u32, t: u32) -> Result<Channel, BadChannel>
         ensures accepted { IsOk result ↔ IsChannel (record { w = w; b = b; n = n; t = t }) }
         ensures numbers { IfOk result (λ channel. channel ≡ record { w = w; b = b; n = n; t = t }) }
         ensures order { (result ≡ Err BadChannel.Order) ↔ ¬ IsOrdered w b n t }
-        ensures range { (result ≡ Err BadChannel.Range) ↔ (IsOrdered w b n t × ((255 < w) ⊎ (40 < t))) }
+        ensures range { (result ≡ Err BadChannel.Range) ↔ (IsOrdered w b n t × ((MAX_WINDOW < w) ⊎ (MAX_DEADLINE < t))) }
     {
         if !(1 <= n && n <= b && b <= t && t < w) {
             return Err(BadChannel::Order);
         }
-        if w > Channel::MAX_WINDOW || t > Channel::MAX_DEADLINE {
+        if w > MAX_WINDOW || t > MAX_DEADLINE {
             return Err(BadChannel::Range);
         }
         Ok(Channel { w, b, n, t })
@@ -107,6 +108,11 @@ impl Channel {
         self.t
     }
 }
+
+/// The test on the numbers of a channel is the definition of a channel.
+pub fn one_channel()
+    ensures { (numbers : ChannelNumbers) → (is_channel numbers ≡ true) ↔ IsChannel numbers }
+{}
 
 #[cfg(test)]
 mod tests {

@@ -1,11 +1,12 @@
-use Rattle.std.proofs.Common.{◌+◌, refl, arith}
+use Rattle.std.proofs.Common.{◌+◌, Some, None, refl, sym, arith}
 use Rattle.std.proofs.lemmas.Bool.{true≢false}
 use Rattle.sc_channel.specs.Loss.{IsFine}
 use Rattle.sc_channel.specs.Sweep.{recent}
 use Rattle.sc_channel.proofs.FineParts.{IsAdmissible-from_windows, IsAdmissible-window, IsAdmissible-no_bad}
 use Rattle.sc_channel.proofs.Sweeping.{RecentFine-more, recent_close, recent_few, recent_kept, bad_found, all_fine}
-use Rattle.sc_channel.proofs.windows.first_bad_window.Goals as goal
-use Rattle.sc_channel.proofs.windows.first_bad_window.Goals.{else-flags-i-via-then-flags-i+then-n-set+else-start-early_end, else-flags-i-via-then-flags-i+else-n-set, else-flags-i-via-else-flags-i}
+use Rattle.sc_channel.proofs.WindowLaws.{bad_window-is}
+use Rattle.sc_channel.proofs.loss.first_bad_window.Goals as goal
+use Rattle.sc_channel.proofs.loss.first_bad_window.Goals.{else-flags-i-via-then-flags-i+then-n-set+else-start-early_end, else-flags-i-via-then-flags-i+else-n-set, else-flags-i-via-else-flags-i}
 
 pub returns-then-start-early_end-clause-answer : goal.returns-then-start-early_end-clause-answer
 returns-then-start-early_end-clause-answer c =
@@ -57,3 +58,9 @@ returns-clause-admissible c = (λ _. returns-clause-answer c, λ _. refl)
 pub returns-clause-by_windows : goal.returns-clause-by_windows
 returns-clause-by_windows c =
     (λ _ i within. IsAdmissible-window c.args.channel.now c.args.flags.now i (returns-clause-answer c), λ _. refl)
+
+pub returns-then-start-early_end-clause-value : goal.returns-then-start-early_end-clause-value
+returns-then-start-early_end-clause-value c = sym (bad_window-is c.args.channel.now c.args.flags.now (Some _) (returns-then-start-early_end-clause-answer c))
+
+pub returns-clause-value : goal.returns-clause-value
+returns-clause-value c = sym (bad_window-is c.args.channel.now c.args.flags.now None (returns-clause-answer c))

@@ -5,17 +5,17 @@ use Rattle.std.specs.Prelude.{ℕ, ◌+◌, ◌^◌, ◌<◌, ◌≤◌, ◌==�
 use Rattle.std.specs.Int.{w16, w32, to_be_bytes, from_be_bytes}
 
 -- a record: the packet's true length, the offset, and the packet or its front
-pub record Entry : Type 0 where
+pub record Record : Type 0 where
   pub plen : ℕ
   pub offset : ℕ
   pub body : List ℕ
 
 -- the record with nothing in it
-abbrev pub empty_entry : Entry
-empty_entry = record { plen = 0; offset = 0; body = [] }
+abbrev pub empty_record : Record
+empty_record = record { plen = 0; offset = 0; body = [] }
 
 -- what has a spelling: the numbers fit their fields
-pub record IsEntry (e : Entry) : Type 0 where
+pub record IsRecord (e : Record) : Type 0 where
   pub plen : e.plen < 2 ^ 16
   pub offset : e.offset < 2 ^ 32
   pub body : length e.body ≤ 65527
@@ -25,8 +25,8 @@ abbrev pub head_bytes : ℕ → ℕ → ℕ → List ℕ
 head_bytes len plen offset = to_be_bytes w16 len ++ (to_be_bytes w16 plen ++ to_be_bytes w32 offset)
 
 -- how a record is spelled
-unfoldable pub entry_bytes : Entry → List ℕ
-entry_bytes e = head_bytes (8 + length e.body) e.plen e.offset ++ e.body
+unfoldable pub record_bytes : Record → List ℕ
+record_bytes e = head_bytes (8 + length e.body) e.plen e.offset ++ e.body
 
 -- the number in the field of the length
 unfoldable pub length_field : List ℕ → ℕ
@@ -43,11 +43,11 @@ pub data Break : Type 0 where
 pub data Front : Type 0 where
   ends : Front
   breaks : Break → Front
-  starts : Entry → List ℕ → Front
+  starts : Record → List ℕ → Front
 
 -- the record that the first bytes spell, as many as its length says
-abbrev pub entry_at : List ℕ → Entry
-entry_at bytes = record {
+abbrev pub record_at : List ℕ → Record
+record_at bytes = record {
   plen = from_be_bytes w16 (take 2 (drop 2 bytes));
   offset = from_be_bytes w32 (take 4 (drop 4 bytes));
   body = drop 8 (take (length_field bytes) bytes);
@@ -59,4 +59,4 @@ front_of bytes =
     else (if nat_lt (length bytes) 8 then breaks short_head
     else (if nat_lt (length_field bytes) 8 then breaks short_length
     else (if nat_lt (length bytes) (length_field bytes) then breaks cut_body
-    else starts (entry_at bytes) (drop (length_field bytes) bytes))))
+    else starts (record_at bytes) (drop (length_field bytes) bytes))))
