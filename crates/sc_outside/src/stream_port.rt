@@ -1,7 +1,7 @@
 //! A port over a reader and a writer of std. Over the process's own standard streams it is the port of the program.
 ghost use Rattle.std.specs.Prelude.{◌≡◌, None, IfOk};
 ghost use Rattle.std.specs.Io.Buffered.{reader_remaining};
-ghost use Rattle.sc_outside.specs.Stream.{port_told};
+ghost use Rattle.sc_outside.specs.StreamPort.{port_told};
 
 use super::error::{Failed, NoMemory};
 use super::port::Port;

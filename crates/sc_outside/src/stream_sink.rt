@@ -1,6 +1,6 @@
 //! A sink over a writer of std. Over the process's own standard error it is the sink of the program's notes.
 ghost use Rattle.std.specs.Prelude.{◌≡◌};
-ghost use Rattle.sc_outside.specs.Stream.{sink_told};
+ghost use Rattle.sc_outside.specs.StreamSink.{sink_told};
 
 use super::error::Failed;
 use super::sink::Sink;
