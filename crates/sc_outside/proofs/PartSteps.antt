@@ -13,10 +13,6 @@ take-put_part f t k buf part within fits =
     ∙ take-append-add (take f buf) (part ++ after) t
     ∙ ap (λ l. take f buf ++ l) (take-append-le t part after fits)
 
--- what stood before the part is as it was
-pub take-put_before : (f k : ℕ) (buf part : List ℕ) → f ≤ length buf → take f (put_mid f k buf part) ≡ take f buf
-take-put_before f k buf part within = take_put f k buf part within
-
 -- the whole has its length still
 pub length-put_part : (f k : ℕ) (buf part : List ℕ) → length part ≡ length (mid_of f k buf) → length (put_mid f k buf part) ≡ length buf
 length-put_part f k buf part size = same_len_mid f k buf part size
