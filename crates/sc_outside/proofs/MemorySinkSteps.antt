@@ -1,5 +1,5 @@
 -- What a write to a sink in memory does is what the trait asks.
-use Rattle.std.proofs.Common.{◌≡◌, ℕ, ◌<◌, Some, List, length, Result, Ok, Err, ap, arith}
+use Rattle.std.proofs.Common.{ℕ, ◌<◌, List, length, Result, Ok, Err, ap, arith}
 use Rattle.sc_outside.specs.declared.error.Failed.{Failed}
 use Rattle.sc_outside.specs.Sink.{SinkGives}
 use Rattle.sc_outside.specs.MemorySink.{SinkState, IsMemorySink, told_by_sink, SinksAs}

@@ -1,5 +1,5 @@
 -- What a port's moments have to do with each other: nothing moved, one call, and one stretch after another.
-use Rattle.std.proofs.Common.{◌≡◌, ℕ, ◌≤◌, List, [], ◌++◌, length, take, Option, refl, sym, ◌∙◌, subst, arith, length-append, length-take}
+use Rattle.std.proofs.Common.{◌≡◌, ℕ, List, [], ◌++◌, length, take, Option, refl, sym, ◌∙◌, subst, arith, length-append, length-take}
 use Rattle.std.specs.Io.KnownBytes.{Consumes, Appends}
 use Rattle.std.proofs.KnownBytes.{Consumes-nil, Consumes-kept, Consumes-trans, Appends-nil, Appends-kept, Appends-trans}
 use Rattle.sc_outside.specs.Port.{Told, MovesIn, MovesOut, ReadFails, WriteFails, Moves, Takes, Puts}

@@ -2,7 +2,7 @@
 use Rattle.std.proofs.Common.{◌≡◌, ℕ, ◌+◌, ◌-◌, ◌≤◌, List, ◌++◌, arith, length, take, drop, sym, ap, ◌∙◌, length-take-le, take_all, length-drop}
 use Rattle.std.proofs.lemmas.List.{take-append-le}
 use Rattle.std.proofs.Math.Seq.{take-append-add}
-use borrow.Rule.Slice.PartMut.{put_mid, post_of, take_put, same_len_mid, mid_of}
+use borrow.Rule.Slice.PartMut.{put_mid, post_of, same_len_mid, mid_of}
 
 -- the whole begins with what stood before the part, and then with the start of the part
 pub take-put_part : (f t k : ℕ) (buf part : List ℕ) → f ≤ length buf → t ≤ length part → take (f + t) (put_mid f k buf part) ≡ take f buf ++ take t part

@@ -1,5 +1,5 @@
 -- Calls that were interrupted, and then one that wasn't.
-use Rattle.std.proofs.Common.{◌≡◌, ℕ, ◌<◌, List, [], take, None, Some, Option, sym, ◌∙◌}
+use Rattle.std.proofs.Common.{ℕ, List, None, Some, Option, sym, ◌∙◌}
 use Rattle.std.specs.Io.KnownBytes.{Keeps, Consumes, Appends}
 use Rattle.std.proofs.KnownBytes.{Keeps-refl, Keeps-trans}
 
