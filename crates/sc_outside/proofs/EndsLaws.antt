@@ -114,7 +114,8 @@ module _ {A B : Type 0} (f : A → B) (job : Job A) (old new : Told) (answer : A
 pub IsJob-told_as : {A B : Type 0} (f : A → B) (job : Job A) → IsJob job → IsJob (told_as f job)
 IsJob-told_as f job j = record { grows = j.grows; spares = j.spares }
 
-some_left : (left : Option (List ℕ)) → (rest : List ℕ) × IsLeft left rest
+-- some input is left, whether it is told or not
+pub some_left : (left : Option (List ℕ)) → (rest : List ℕ) × IsLeft left rest
 some_left None = ([], tt)
 some_left (Some xs) = (xs, refl)
 

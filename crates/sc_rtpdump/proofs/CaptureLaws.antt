@@ -31,7 +31,7 @@ not_empty n h = false_from_ne_true (n == 0) (λ e. absurd (omega (arith, eqb-tru
 abbrev pub chosen : Bool → Bool → Bool → Bool → Record → List ℕ → Front
 chosen a b c d e rest = cond a ends (cond b (breaks short_head) (cond c (breaks short_length) (cond d (breaks cut_body) (starts e rest))))
 
-chosen-last : (a b c d : Bool) (e x : Record) (r y : List ℕ) → a ≡ false → b ≡ false → c ≡ false → d ≡ false → e ≡ x → r ≡ y → chosen a b c d e r ≡ starts x y
+pub chosen-last : (a b c d : Bool) (e x : Record) (r y : List ℕ) → a ≡ false → b ≡ false → c ≡ false → d ≡ false → e ≡ x → r ≡ y → chosen a b c d e r ≡ starts x y
 chosen-last true b c d e x r y p q s t u v = absurd (cc)
 chosen-last false true c d e x r y p q s t u v = absurd (cc)
 chosen-last false false true d e x r y p q s t u v = absurd (cc)

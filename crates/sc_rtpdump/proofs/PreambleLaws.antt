@@ -4,9 +4,7 @@ use Rattle.std.proofs.lemmas.List.{take-append-le}
 use Rattle.std.proofs.lemmas.Bool.{lt-leb, le-leb, eqb-true, false_from_ne_true}
 use Rattle.std.proofs.lemmas.Slice.Eq.{bytes_eq-Decides}
 use Rattle.std.specs.Option.{option_map}
-use Rattle.sc_rtpdump.specs.Lines.{IsOneLine}
-use Rattle.sc_rtpdump.specs.Preamble.{magic, IsPreamble, newline_at, len_with, preamble_len}
-use Rattle.sc_rtpdump.specs.Readings.{HasNoPreamble}
+use Rattle.sc_rtpdump.specs.Preamble.{magic, IsPreamble, newline_at, len_with, preamble_len, HasNoPreamble, IsOneLine}
 
 -- what follows the magic decides
 after_magic : (xs : List ℕ) → preamble_len (magic ++ xs) ≡ len_with (newline_at xs) (13 + length xs)

@@ -7,8 +7,7 @@ use Rattle.std.specs.Int.{w16, w32, from_be_bytes}
 use Rattle.std.specs.List.{AllByRecursion}
 use Rattle.std.specs.Option.{option_map}
 use Rattle.sc_rtpdump.specs.Record.{Record, IsRecord, record_bytes, head_bytes, length_field, record_at, Front, ends, breaks, starts, front_of}
-use Rattle.sc_rtpdump.specs.Lines.{IsOneLine}
-use Rattle.sc_rtpdump.specs.Preamble.{magic, IsPreamble, newline_at, len_with, preamble_len}
+use Rattle.sc_rtpdump.specs.Preamble.{magic, IsPreamble, newline_at, len_with, preamble_len, IsOneLine}
 use Rattle.sc_rtpdump.specs.Capture.{records_bytes, IsCapture, Parts, with_first, parts_within, parts_of, no_preamble, reads, reading_with, reading_of, IsReading, AreBytes, BeginsOtherwise}
 use Rattle.sc_rtpdump.proofs.CaptureLaws.{with_all, after_front, parts_of-along, reading_of-preamble, reading_of-none, front_of-end, front_of-record, length-record_bytes, chosen, front_of-is}
 use Rattle.sc_rtpdump.proofs.HeadLaws.{head_bytes-from}
@@ -150,7 +149,7 @@ front_parts bytes n begin c =
     }
 
 -- the length of a preamble is that of one that is there
-preamble_front : (bytes : List ℕ) (n : ℕ) → preamble_len bytes ≡ Some n → IsPreamble (take n bytes)
+pub preamble_front : (bytes : List ℕ) (n : ℕ) → preamble_len bytes ≡ Some n → IsPreamble (take n bytes)
 unfolding preamble_len
 preamble_front bytes n e =
     let h = begins (bytes_eq (take 13 bytes) magic) (newline_at (drop 13 bytes)) (length bytes) n e in
@@ -229,7 +228,7 @@ record_there bytes fits eight least within =
           ∙ sym (append_assoc (head_bytes (8 + length e.body) e.plen e.offset) e.body (drop len bytes)),
     )
 
-chosen-starts : (a b c d : Bool) (x e : Record) (y r : List ℕ) → chosen a b c d x y ≡ starts e r → (b ≡ false) × (c ≡ false) × (d ≡ false) × (x ≡ e) × (y ≡ r)
+pub chosen-starts : (a b c d : Bool) (x e : Record) (y r : List ℕ) → chosen a b c d x y ≡ starts e r → (b ≡ false) × (c ≡ false) × (d ≡ false) × (x ≡ e) × (y ≡ r)
 chosen-starts true b c d x e y r h = absurd (cc)
 chosen-starts false true c d x e y r h = absurd (cc)
 chosen-starts false false true d x e y r h = absurd (cc)

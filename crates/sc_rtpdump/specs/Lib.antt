@@ -1,10 +1,8 @@
-pub mod Buffer
 pub mod Capture
-pub mod Record
-pub mod Held
-pub mod Lines
+pub mod DumpRecord
+pub mod Head
+pub mod Next
 pub mod OneReading
 pub mod Preamble
-pub mod Readings
-pub mod Thinned
-pub mod Thinning
+pub mod Record
+pub mod Thin

@@ -23,11 +23,11 @@ pub enum DumpFault {
 impl fmt::Display for DumpFault {
     fn fmt<W: fmt::Write>(&self, f: &mut fmt::Formatter<W>) -> fmt::Result {
         match self {
-            DumpFault::Preamble => write!(f, "no preamble"),
-            DumpFault::RecordHead(i) => write!(f, "record {i} ends in its head"),
-            DumpFault::RecordLength(i) => write!(f, "record {i} has a length below 8"),
-            DumpFault::Truncated(i) => write!(f, "record {i} is cut"),
-            DumpFault::Read => write!(f, "a read failed"),
+            DumpFault::Preamble => write!(f, "preamble"),
+            DumpFault::RecordHead(i) => write!(f, "record {i} head"),
+            DumpFault::RecordLength(i) => write!(f, "record {i} length"),
+            DumpFault::Truncated(i) => write!(f, "record {i} cut"),
+            DumpFault::Read => write!(f, "read fault"),
             DumpFault::Memory => write!(f, "no memory"),
         }
     }

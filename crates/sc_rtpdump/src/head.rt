@@ -1,7 +1,7 @@
 //! The eight bytes before a record's body.
 ghost use Rattle.std.specs.Prelude.{◌≡◌};
 ghost use Rattle.sc_rtpdump.specs.Record.{head_bytes};
-ghost use Rattle.sc_rtpdump.specs.Readings.{HeadGives, IsHead};
+ghost use Rattle.sc_rtpdump.specs.Head.{HeadGives, IsHead};
 
 use super::fault::DumpFault;
 use sc_outside::{Port, read_exact_or_end};

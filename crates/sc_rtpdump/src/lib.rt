@@ -3,7 +3,6 @@
 
 mod fault;
 mod head;
-mod held;
 mod next;
 mod preamble;
 mod reading_laws;
@@ -15,7 +14,7 @@ pub use next::{next_record, write_record};
 pub use preamble::{Preamble, read_preamble};
 pub use reading_laws::one_reading;
 pub use record::DumpRecord;
-pub use thin::{DropFault, Dropped, drop_records};
+pub use thin::{DropFault, Dropped, drop_records, thinning_is_a_job};
 
 #[cfg(test)]
 mod tests;

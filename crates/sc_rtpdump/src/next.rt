@@ -1,9 +1,8 @@
 //! Reading the next record of a capture, and writing a record.
 ghost use Rattle.std.specs.Prelude.{◌≤◌, length, OnOk, OnErr};
-ghost use Rattle.sc_outside.specs.Port.{Puts};
-ghost use Rattle.sc_outside.specs.Whole.{PutsPart};
+ghost use Rattle.sc_outside.specs.Whole.{PutsAll, WriteFailed};
 ghost use Rattle.sc_rtpdump.specs.Record.{record_bytes};
-ghost use Rattle.sc_rtpdump.specs.Readings.{NextGives};
+ghost use Rattle.sc_rtpdump.specs.Next.{NextGives};
 
 use super::fault::DumpFault;
 use super::head::{HEAD, Head, read_head};
@@ -35,7 +34,7 @@ pub fn next_record<P: Port>(
 }
 
 /// Writes a record: its offset in milliseconds, the packet's true length, and the packet or its front. After `Failed` a
-/// front of the record's bytes that isn't the whole was written.
+/// prefix of the record's bytes that isn't the whole was written.
 pub fn write_record<P: Port>(
     port: &mut P,
     offset: u32,
@@ -43,9 +42,9 @@ pub fn write_record<P: Port>(
     body: &[u8],
 ) -> Result<(), Failed>
     requires { length body.now ≤ 65527 }
-    ensures ok { OnOk result (Puts (P.told port.old) (P.told port.new)
+    ensures ok { OnOk result (PutsAll (P.told port.old) (P.told port.new)
         (record_bytes (record { plen = plen; offset = offset; body = body.now }))) }
-    ensures err { OnErr result (PutsPart (P.told port.old) (P.told port.new)
+    ensures err { OnErr result (WriteFailed (P.told port.old) (P.told port.new)
         (record_bytes (record { plen = plen; offset = offset; body = body.now }))) }
 {
     let len = (HEAD + body.len()) as u16;

@@ -1,11 +1,10 @@
 //! The preamble of a capture.
-ghost use Rattle.std.specs.Prelude.{◌≡◌, ◌≤◌, [], length, vec_capacity, IfOk};
-ghost use Rattle.sc_rtpdump.specs.Preamble.{IsPreamble};
-ghost use Rattle.sc_rtpdump.specs.Readings.{PreambleGives, PartsGive};
-ghost use Rattle.sc_rtpdump.specs.Lines.{MagicGives, ByteGives, LineGives};
+ghost use Rattle.std.specs.Prelude.{◌≡◌, ◌≤◌, [], length, vec_capacity};
+ghost use Rattle.sc_rtpdump.specs.Preamble.{IsPreamble, PreambleGives, PartsGive, MagicGives, ByteGives, LineGives};
 
 use super::fault::DumpFault;
-use sc_outside::{Failed, NoMemory, Port, read_exact_or_end};
+use super::record::zeros;
+use sc_outside::{Failed, Port, read_exact_or_end};
 use std::alloc::Global;
 use std::marker::Model;
 
@@ -43,13 +42,6 @@ impl Preamble {
     {
         self.bytes.as_slice()
     }
-}
-
-/// A buffer with room for the longest preamble.
-fn buffer(alloc: Global, len: usize) -> Result<Vec<u8>, NoMemory>
-    ensures { IfOk result (λ bytes. length bytes.items ≡ len) }
-{
-    Ok(vec![in alloc; 0; len]?)
 }
 
 /// Reads the first bytes of the first line. False where they aren't those of a preamble.
@@ -132,7 +124,7 @@ pub fn read_preamble<P: Port>(alloc: Global, port: &mut P) -> Result<Preamble, D
     let Ok(mut bytes) = Vec::with_capacity(alloc, LINE_LIMIT + FIELDS) else {
         return Err(DumpFault::Memory);
     };
-    let Ok(mut line) = buffer(alloc, LINE_LIMIT - MAGIC.len()) else {
+    let Ok(mut line) = zeros(alloc, LINE_LIMIT - MAGIC.len()) else {
         return Err(DumpFault::Memory);
     };
     read_parts(port, &mut bytes, &mut line)?;

@@ -1,7 +1,8 @@
 //! A record of a capture, in a buffer with room for every record.
 ghost use Rattle.std.specs.Prelude.{◌≡◌, ◌≤◌, ◌<◌, ◌+◌, ◌-◌, ◌++◌, length, vec_len, take, drop, IfOk};
 ghost use Rattle.sc_rtpdump.specs.Record.{IsRecord, empty_record, record_bytes, head_bytes};
-ghost use Rattle.sc_rtpdump.specs.Readings.{BodyGives, FillGives, IsHead};
+ghost use Rattle.sc_rtpdump.specs.DumpRecord.{BodyGives, FillGives};
+ghost use Rattle.sc_rtpdump.specs.Head.{IsHead};
 
 use super::head::{HEAD, Head};
 use sc_outside::{Failed, NoMemory, Port, read_exact_or_end};
@@ -9,7 +10,7 @@ use std::alloc::Global;
 use std::marker::Model;
 
 /// The longest record, in bytes: its length is a number of 16 bits.
-const LONGEST: usize = 65535;
+pub(crate) const LONGEST: usize = 65_535;
 
 /// A record of a capture, with room for the longest body, of 65,527 bytes.
 ///
@@ -28,7 +29,7 @@ impl Model for DumpRecord {
 
     ghost Value = { Record };
 
-    ghost use Rattle.sc_rtpdump.specs.Buffer.{record_in, HoldsRecord};
+    ghost use Rattle.sc_rtpdump.specs.DumpRecord.{record_in, HoldsRecord};
 
     ghost view = { λ r. record_in r.plen r.offset r.len r.bytes.items };
 
@@ -36,7 +37,7 @@ impl Model for DumpRecord {
 }
 
 /// A buffer of so many bytes.
-fn zeros(alloc: Global, len: usize) -> Result<Vec<u8>, NoMemory>
+pub(crate) fn zeros(alloc: Global, len: usize) -> Result<Vec<u8>, NoMemory>
     ensures { IfOk result (λ bytes. length bytes.items ≡ len) }
 {
     Ok(vec![in alloc; 0; len]?)
@@ -73,7 +74,7 @@ fn read_body<P: Port>(port: &mut P, bytes: &mut Vec<u8>, len: usize) -> Result<b
 impl DumpRecord {
     /// An empty record. It reserves the room for every record.
     pub fn start(alloc: Global) -> Result<DumpRecord, NoMemory>
-        ensures { IfOk result (λ entry. entry ≡ empty_record) }
+        ensures { IfOk result (λ rec. rec ≡ empty_record) }
     {
         let mut bytes = zeros(alloc, LONGEST)?;
         set_head(&mut bytes, Head::EMPTY);

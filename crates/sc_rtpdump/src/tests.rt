@@ -200,11 +200,12 @@ fn thins_captures(rt: HostRuntime) -> Result<(), Fail> {
     Ok(())
 }
 
-// The loss of none of three slots.
-fn none_of_three(alloc: Global) -> Result<Flags, NoMemory>
-    ensures { IfOk result (λ flags. length flags ≡ 3) }
+// The loss of none of four slots.
+fn none_of_four(alloc: Global) -> Result<Flags, NoMemory>
+    ensures { IfOk result (λ flags. length flags ≡ 4) }
 {
     let mut flags = Flags::new(alloc);
+    flags.push(false)?;
     flags.push(false)?;
     flags.push(false)?;
     flags.push(false)?;
@@ -213,19 +214,19 @@ fn none_of_three(alloc: Global) -> Result<Flags, NoMemory>
 
 #[test]
 fn writes_many_records_at_once(rt: HostRuntime) -> Result<(), Fail> {
-    // The longest record. Two of them wait together, and are written when the third comes.
+    // The longest record. Three of them wait together, and are written when the fourth comes.
     let mut record = b"\xff\xff\xff\xf7\x00\x00\x00\x02"
         .as_slice()
         .to_vec(rt.alloc())?;
     record.resize(65535, 0x5a)?;
     let mut records = Vec::new(rt.alloc());
-    for _ in 0..3 {
+    for _ in 0..4 {
         records.extend_from_slice(&record)?;
     }
-    let flags = none_of_three(rt.alloc())?;
+    let flags = none_of_four(rt.alloc())?;
     let mut port = port_of(rt.alloc(), &records, 1 << 20, 1 << 20)?;
     let done = Ok(Dropped {
-        records: 3,
+        records: 4,
         lost: 0,
     });
     assert_eq!(rt; drop_records(rt.alloc(), &mut port, &flags), done);
@@ -238,35 +239,30 @@ fn writes_many_records_at_once(rt: HostRuntime) -> Result<(), Fail> {
             written.push(*n)?;
         }
     }
-    assert_eq!(rt; written.as_slice(), [44, 131070, 65535].as_slice());
+    assert_eq!(rt; written.as_slice(), [44, 196605, 65535].as_slice());
     Ok(())
 }
 
 #[test]
 fn prints_faults(rt: HostRuntime) -> Result<(), Fail> {
     for (fault, want) in [
-        (DropFault::Dump(DumpFault::Preamble), "no preamble"),
-        (
-            DropFault::Dump(DumpFault::RecordHead(0)),
-            "record 0 ends in its head",
-        ),
+        (DropFault::Dump(DumpFault::Preamble), "preamble"),
+        (DropFault::Dump(DumpFault::RecordHead(0)), "record 0 head"),
         (
             DropFault::Dump(DumpFault::RecordLength(7)),
-            "record 7 has a length below 8",
+            "record 7 length",
         ),
-        (
-            DropFault::Dump(DumpFault::Truncated(12)),
-            "record 12 is cut",
-        ),
-        (DropFault::Dump(DumpFault::Read), "a read failed"),
+        (DropFault::Dump(DumpFault::Truncated(12)), "record 12 cut"),
+        (DropFault::Dump(DumpFault::Read), "read fault"),
         (DropFault::Dump(DumpFault::Memory), "no memory"),
-        (DropFault::More, "more records than flags"),
-        (DropFault::Fewer(3), "only 3 records"),
-        (DropFault::Write, "a write failed"),
+        (DropFault::More, "more records"),
+        (DropFault::Fewer(3), "records 3"),
+        (DropFault::Write, "write fault"),
     ] {
         let text = format!(in rt.alloc(); "{fault}")?;
         assert_eq!(rt; text.as_str(), want);
     }
     one_reading();
+    thinning_is_a_job();
     Ok(())
 }

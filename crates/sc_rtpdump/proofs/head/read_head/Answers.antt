@@ -11,11 +11,9 @@ returns-then-head-lt8 g c =
     let buf = c.read_exact_or_end.new.buf in
     let n = c.in-Ok-eq8.field-0 in
     let size : length buf ≡ 8 = ap length spelled in
-    let field : length_field buf ≡ head.len = length_field-spelled buf head.len head.plen head.offset spelled c.from_bytes-head.ensures.fits.0 in (
-      refl,
-      record {
-        taken = buf;
-        takes = subst (Takes _ _) (take_all n buf (omega (arith, size, c.in-Ok-eq8.field-0-test))) c.in-Ok-eq8.ensures.ok.takes;
-        holds = (size, omega (arith, field, c.if-head-lt8.true));
-      },
-    )
+    let field : length_field buf ≡ head.len = length_field-spelled buf head.len head.plen head.offset spelled c.from_bytes-head.ensures.fits.0 in
+    record {
+      tail = buf;
+      takes = subst (Takes _ _) (take_all n buf (omega (arith, size, c.in-Ok-eq8.field-0-test))) c.in-Ok-eq8.ensures.ok.takes;
+      at = (refl, (size, omega (arith, field, c.if-head-lt8.true)));
+    }

@@ -1,4 +1,4 @@
-use Rattle.sc_rtpdump.proofs.NextLaws.{next_found, next_cut, next_failed}
+use Rattle.sc_rtpdump.proofs.NextSteps.{next_found, next_cut, next_failed}
 use Rattle.sc_rtpdump.proofs.next.next_record.Goals as goal
 
 pub returns-in-Ok-true : goal.returns-in-Ok-true

@@ -1,5 +1,5 @@
 use Rattle.std.proofs.lemmas.Result.{err_from_is_err_and, on_ok_weaker, on_err_weaker}
-use Rattle.sc_rtpdump.proofs.NextLaws.{record_whole, record_first, record_then}
+use Rattle.sc_rtpdump.proofs.NextSteps.{record_whole, record_first, record_then}
 use Rattle.sc_rtpdump.proofs.next.write_record.Goals as goal
 
 pub returns-in_err-write_whole-clause-err : goal.returns-in_err-write_whole-clause-err

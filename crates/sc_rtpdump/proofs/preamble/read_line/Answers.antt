@@ -2,7 +2,7 @@ use Rattle.std.proofs.Common.{◌<◌, length, take, arith}
 use Rattle.std.proofs.lemmas.List.{length-set}
 use Rattle.std.proofs.lemmas.Result.{err_from_is_err_and}
 use Rattle.sc_outside.proofs.FaultsLaws.{Rose-earlier}
-use Rattle.sc_rtpdump.proofs.LineLaws.{one_line_more, takes_more, one_line_kept, newline_last, takes_same}
+use Rattle.sc_rtpdump.proofs.PreambleSteps.{one_line_more, takes_more, one_line_kept, newline_last, takes_same}
 use Rattle.sc_rtpdump.proofs.preamble.read_line.Goals as goal
 
 pub returns-in_err-byte : goal.returns-in_err-byte

@@ -1,6 +1,6 @@
 use Rattle.std.proofs.Common.{take}
 use Rattle.sc_outside.specs.Port.{Takes}
-use Rattle.sc_rtpdump.specs.Lines.{IsOneLine}
+use Rattle.sc_rtpdump.specs.Preamble.{IsOneLine}
 use Rattle.sc_rtpdump.proofs.preamble.read_line.Given as goal
 
 -- the bytes before the place were taken, and none is a newline

@@ -1,7 +1,7 @@
 use Rattle.std.proofs.Common.{◌≡◌, ◌+◌, ◌++◌, take, ap, ◌∙◌, subst}
-use Rattle.sc_outside.specs.Whole.{StopsShort}
+use Rattle.sc_outside.specs.Whole.{ReadFailed}
 use Rattle.sc_rtpdump.specs.Preamble.{magic}
-use Rattle.sc_rtpdump.proofs.PartsLaws.{magic_missing, magic_failed, line_missing, line_failed, fields_missing, fields_failed, parts_done}
+use Rattle.sc_rtpdump.proofs.PreambleSteps.{magic_missing, magic_failed, line_missing, line_failed, fields_missing, fields_failed, parts_done}
 use Rattle.sc_rtpdump.proofs.preamble.read_parts.Goals as goal
 
 pub returns-in-Ok-false : goal.returns-in-Ok-false
@@ -27,7 +27,7 @@ returns-in-Ok g c =
 pub returns-in-Err-read_exact_or_end : goal.returns-in-Err-read_exact_or_end
 returns-in-Err-read_exact_or_end g c =
     fields_failed _ _ _ _ c.args.bytes.now.items c.read_line.new.bytes c.in-Ok-Some.place (rw c.in-Ok-true.field-0-test at c.in-Ok-true.ensures)
-    (rw c.in-Ok-Some.field-0-is at c.in-Ok-Some.ensures) (subst (StopsShort _ _) c.read_exact_or_end.auto.buf c.in-Err-read_exact_or_end.ensures.err)
+    (rw c.in-Ok-Some.field-0-is at c.in-Ok-Some.ensures) (subst (ReadFailed _ _) c.read_exact_or_end.auto.buf c.in-Err-read_exact_or_end.ensures.err)
 
 pub returns : goal.returns
 returns g c =

@@ -1,29 +1,44 @@
 use Rattle.std.proofs.Common.{subst}
 use Rattle.sc_outside.specs.Port.{Puts}
-use Rattle.sc_outside.specs.Whole.{PutsPart}
-use Rattle.sc_rtpdump.specs.Thinning.{RestGives, GivesRestFront}
-use Rattle.sc_rtpdump.proofs.DropLaws.{front-none, drop-behind, front-behind, front-preamble, drop-preamble}
+use Rattle.sc_outside.specs.Whole.{WriteFailed}
+use Rattle.sc_outside.proofs.EndsLaws.{Ends-no_memory}
+use Rattle.sc_rtpdump.specs.Thin.{thinning, EndGives, LosesAfter}
+use Rattle.sc_rtpdump.proofs.ThinSteps.{records_end, lost_end, flush_end, preamble_lost, preamble_end}
 use Rattle.sc_rtpdump.proofs.thin.drop_records.Goals as goal
 
-pub returns-in_default-clause-front : goal.returns-in_default-clause-front
-returns-in_default-clause-front g c = front-none c.args.flags.now (g.P.Port.told c.args.port.now)
+pub returns-in_default : goal.returns-in_default
+returns-in_default g c = Ends-no_memory (thinning c.args.flags.now) (g.P.Port.told c.args.port.now)
 
-pub returns-in-Err-read_preamble-clause-gives : goal.returns-in-Err-read_preamble-clause-gives
-returns-in-Err-read_preamble-clause-gives g c = drop-preamble c.args.flags.now _ _ c.in-Err-read_preamble.fault c.in-Err-read_preamble.ensures
+pub returns-in-Err : goal.returns-in-Err
+returns-in-Err g c = preamble_end c.args.flags.now _ _ c.in-Err.fault c.in-Err.ensures
 
-pub returns-in-Ok-write_whole-clause-gives : goal.returns-in-Ok-write_whole-clause-gives
-returns-in-Ok-write_whole-clause-gives g c =
+pub returns-in_default-write_whole : goal.returns-in_default-write_whole
+returns-in_default-write_whole g c =
+    let told = g.P.Port.told in
     let read = c.in-Ok-read_preamble.ensures in
-    drop-behind c.args.flags.now (g.P.Port.told c.args.port.now) (g.P.Port.told c.read_preamble.new.port) (g.P.Port.told c.write_whole.new.port) (g.P.Port.told c.drop_rest.new.port) c.in-Ok-read_preamble.preamble c.drop_rest.result read.0 read.1
-    (subst (Puts _ _) c.bytes.ensures.bytes c.in-Ok-write_whole.ensures.ok) (subst (λ l. RestGives l (g.P.Port.told c.write_whole.new.port) (g.P.Port.told c.drop_rest.new.port) c.drop_rest.result) c.as_slice.ensures c.drop_rest.ensures.gives)
+    let lost = subst (WriteFailed (told c.read_preamble.new.port) (told c.write_whole.new.port)) c.bytes.ensures.bytes c.in_default-write_whole.ensures.err in
+    preamble_lost c.args.flags.now _ _ _ c.in-Ok-read_preamble.preamble read.0 read.1 lost
 
-pub returns-in-Ok-write_whole-clause-front : goal.returns-in-Ok-write_whole-clause-front
-returns-in-Ok-write_whole-clause-front g c =
+pub returns-in_default-take_rest : goal.returns-in_default-take_rest
+returns-in_default-take_rest g c =
+    let told = g.P.Port.told in
     let read = c.in-Ok-read_preamble.ensures in
-    front-behind c.args.flags.now (g.P.Port.told c.args.port.now) (g.P.Port.told c.read_preamble.new.port) (g.P.Port.told c.write_whole.new.port) (g.P.Port.told c.drop_rest.new.port) c.in-Ok-read_preamble.preamble read.0 read.1
-    (subst (Puts _ _) c.bytes.ensures.bytes c.in-Ok-write_whole.ensures.ok) (subst (λ l. GivesRestFront l (g.P.Port.told c.write_whole.new.port) (g.P.Port.told c.drop_rest.new.port)) c.as_slice.ensures c.drop_rest.ensures.front)
+    let puts = subst (Puts (told c.read_preamble.new.port) (told c.write_whole.new.port)) c.bytes.ensures.bytes c.in-Ok-write_whole.ensures.ok.puts in
+    let lost = subst (λ flags. LosesAfter flags (told c.write_whole.new.port) (told c.take_rest.new.port)) c.as_slice.ensures c.in_default-take_rest.ensures in
+    lost_end c.args.flags.now _ _ _ _ c.in-Ok-read_preamble.preamble read.0 read.1 puts lost
 
-pub returns-clause-front : goal.returns-clause-front
-returns-clause-front g c =
+pub returns-in-Ok-flush : goal.returns-in-Ok-flush
+returns-in-Ok-flush g c =
+    let told = g.P.Port.told in
     let read = c.in-Ok-read_preamble.ensures in
-    front-preamble c.args.flags.now _ _ _ c.in-Ok-read_preamble.preamble read.0 read.1 (subst (PutsPart _ _) c.bytes.ensures.bytes c.in-Err-write_whole.ensures.err)
+    let puts = subst (Puts (told c.read_preamble.new.port) (told c.write_whole.new.port)) c.bytes.ensures.bytes c.in-Ok-write_whole.ensures.ok.puts in
+    let rest = subst (λ flags. EndGives flags (told c.write_whole.new.port) (told c.take_rest.new.port) c.take_rest.new.pending c.in-Ok-take_rest.end) c.as_slice.ensures c.in-Ok-take_rest.ensures in
+    records_end c.args.flags.now _ _ _ _ _ c.in-Ok-read_preamble.preamble _ c.in-Ok-take_rest.end read.0 read.1 puts rest c.in-Ok-flush.ensures.1.puts
+
+pub returns : goal.returns
+returns g c =
+    let told = g.P.Port.told in
+    let read = c.in-Ok-read_preamble.ensures in
+    let puts = subst (Puts (told c.read_preamble.new.port) (told c.write_whole.new.port)) c.bytes.ensures.bytes c.in-Ok-write_whole.ensures.ok.puts in
+    let rest = subst (λ flags. EndGives flags (told c.write_whole.new.port) (told c.take_rest.new.port) c.take_rest.new.pending c.in-Ok-take_rest.end) c.as_slice.ensures c.in-Ok-take_rest.ensures in
+    flush_end c.args.flags.now _ _ _ _ _ c.in-Ok-read_preamble.preamble _ _ c.in-Ok-take_rest.end read.0 read.1 puts rest c.in-Err-flush.ensures

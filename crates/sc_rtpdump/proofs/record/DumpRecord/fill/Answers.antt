@@ -1,6 +1,6 @@
 use Rattle.std.proofs.Common.{◌≡◌, arith, length, vec_len, sym, subst}
-use Rattle.sc_rtpdump.specs.Buffer.{HoldsRecord}
-use Rattle.sc_rtpdump.proofs.BufferLaws.{HoldsRecord-set}
+use Rattle.sc_rtpdump.specs.DumpRecord.{HoldsRecord}
+use Rattle.sc_rtpdump.proofs.DumpRecordSteps.{HoldsRecord-set}
 use Rattle.sc_rtpdump.proofs.record.DumpRecord.fill.Goals as goal
 
 pub invariant_of-self-2 : goal.invariant_of-self-2

@@ -1,5 +1,5 @@
 use Rattle.std.proofs.Common.{arith}
-use Rattle.sc_rtpdump.proofs.BufferLaws.{HoldsRecord-set}
+use Rattle.sc_rtpdump.proofs.DumpRecordSteps.{HoldsRecord-set}
 use Rattle.sc_rtpdump.proofs.record.DumpRecord.start.Goals as goal
 
 pub invariant_of-result : goal.invariant_of-result

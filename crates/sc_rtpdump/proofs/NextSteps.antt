@@ -1,15 +1,17 @@
 -- A head and what is read behind it make a record, or a fault.
 use Rattle.std.proofs.Common.{◌≡◌, ℕ, ◌+◌, true, false, List, ◌++◌, length, Ok, Err, refl, sym, ap, ◌∙◌, subst, arith, length-append}
 use Rattle.sc_outside.specs.declared.error.Failed.{Failed}
-use Rattle.sc_outside.specs.Port.{Told, Takes, Puts}
-use Rattle.sc_outside.specs.Whole.{PutsPart}
+use Rattle.sc_outside.specs.Port.{Told, Takes}
+use Rattle.sc_outside.specs.Whole.{PutsAll, WriteFailed}
 use Rattle.sc_outside.proofs.FaultsLaws.{Rose-earlier}
-use Rattle.sc_outside.proofs.MovesLaws.{Takes-trans, Puts-trans}
-use Rattle.sc_outside.proofs.WholeLaws.{PutsPart-first, PutsPart-then}
+use Rattle.sc_outside.proofs.MovesLaws.{Takes-trans}
+use Rattle.sc_outside.proofs.WholeLaws.{PutsAll-trans, WriteFailed-first, WriteFailed-then}
 use Rattle.sc_rtpdump.specs.declared.head.Head.{Head}
 use Rattle.sc_rtpdump.specs.declared.fault.DumpFault.TheVariants.{Truncated, Read}
 use Rattle.sc_rtpdump.specs.Record.{Record, record_bytes, head_bytes, length_field}
-use Rattle.sc_rtpdump.specs.Readings.{IsHead, FillGives, NextGives}
+use Rattle.sc_rtpdump.specs.DumpRecord.{FillGives}
+use Rattle.sc_rtpdump.specs.Head.{IsHead}
+use Rattle.sc_rtpdump.specs.Next.{NextGives}
 use Rattle.sc_rtpdump.proofs.HeadLaws.{length_field-head}
 
 -- how a record is spelled, by a head of its length
@@ -32,13 +34,11 @@ next_cut index old mid new head e t h f =
     let size : length (front ++ part) ≡ 8 + length part = length-append front part in
     let field : length_field (front ++ part) ≡ head.len = length_field-head head.len head.plen head.offset part h.0 in (
       f.0,
-      refl,
       record {
-        taken = front ++ part;
+        tail = front ++ part;
         takes = Takes-trans old mid new front part t f.1.takes;
-        holds = (omega (arith, size), omega (arith, size, field, f.1.holds));
+        at = (refl, (omega (arith, size), omega (arith, size, field, f.1.holds)), f.2);
       },
-      f.2,
     )
 
 pub next_failed : (index : ℕ) (old mid new : Told) (head : Head) (e : Record) (d : Failed) → Takes old mid (head_bytes head.len head.plen head.offset) → IsHead head
@@ -50,11 +50,10 @@ next_failed index old mid new head e d t h f =
     let field : length_field (front ++ part) ≡ head.len = length_field-head head.len head.plen head.offset part h.0 in (
       f.0,
       record {
-        taken = front ++ part;
+        tail = front ++ part;
         takes = Takes-trans old mid new front part t f.1.takes;
-        holds = λ _. omega (arith, size, field, f.1.holds);
+        at = (λ _. omega (arith, size, field, f.1.holds), Rose-earlier _ _ _ t.moves.read_faults f.2);
       },
-      Rose-earlier _ _ _ t.moves.read_faults f.2,
     )
 
 -- a record is written as its head and its body
@@ -62,14 +61,14 @@ spelled : (plen offset : ℕ) (body head : List ℕ) → head ≡ head_bytes (8 
 unfolding record_bytes
 spelled plen offset body head e = ap (λ l. l ++ body) e
 
-pub record_whole : (old mid new : Told) (plen offset : ℕ) (body head : List ℕ) → head ≡ head_bytes (8 + length body) plen offset → Puts old mid head → Puts mid new body
-    → Puts old new (record_bytes (record { plen = plen; offset = offset; body = body }))
-record_whole old mid new plen offset body head e p q = subst (Puts old new) (spelled plen offset body head e) (Puts-trans old mid new head body p q)
+pub record_whole : (old mid new : Told) (plen offset : ℕ) (body head : List ℕ) → head ≡ head_bytes (8 + length body) plen offset → PutsAll old mid head → PutsAll mid new body
+    → PutsAll old new (record_bytes (record { plen = plen; offset = offset; body = body }))
+record_whole old mid new plen offset body head e p q = subst (PutsAll old new) (spelled plen offset body head e) (PutsAll-trans old mid new head body p q)
 
-pub record_first : (old new : Told) (plen offset : ℕ) (body head : List ℕ) → head ≡ head_bytes (8 + length body) plen offset → PutsPart old new head
-    → PutsPart old new (record_bytes (record { plen = plen; offset = offset; body = body }))
-record_first old new plen offset body head e p = subst (PutsPart old new) (spelled plen offset body head e) (PutsPart-first old new head body p)
+pub record_first : (old new : Told) (plen offset : ℕ) (body head : List ℕ) → head ≡ head_bytes (8 + length body) plen offset → WriteFailed old new head
+    → WriteFailed old new (record_bytes (record { plen = plen; offset = offset; body = body }))
+record_first old new plen offset body head e p = subst (WriteFailed old new) (spelled plen offset body head e) (WriteFailed-first old new head body p)
 
-pub record_then : (old mid new : Told) (plen offset : ℕ) (body head : List ℕ) → head ≡ head_bytes (8 + length body) plen offset → Puts old mid head → PutsPart mid new body
-    → PutsPart old new (record_bytes (record { plen = plen; offset = offset; body = body }))
-record_then old mid new plen offset body head e p q = subst (PutsPart old new) (spelled plen offset body head e) (PutsPart-then old mid new head body p q)
+pub record_then : (old mid new : Told) (plen offset : ℕ) (body head : List ℕ) → head ≡ head_bytes (8 + length body) plen offset → PutsAll old mid head → WriteFailed mid new body
+    → WriteFailed old new (record_bytes (record { plen = plen; offset = offset; body = body }))
+record_then old mid new plen offset body head e p q = subst (WriteFailed old new) (spelled plen offset body head e) (WriteFailed-then old mid new head body p.puts q)

@@ -3,7 +3,7 @@ use Rattle.std.proofs.Common.{◌≡◌, ℕ, ◌+◌, ◌-◌, ◌^◌, ◌<◌
 use Rattle.std.proofs.Math.Seq.{take-append-add}
 use Rattle.std.proofs.lemmas.List.{length-take-le}
 use Rattle.sc_rtpdump.specs.Record.{record_bytes, head_bytes}
-use Rattle.sc_rtpdump.specs.Buffer.{HoldsRecord}
+use Rattle.sc_rtpdump.specs.DumpRecord.{HoldsRecord}
 
 pub length-head_bytes : (len plen offset : ℕ) → length (head_bytes len plen offset) ≡ 8
 length-head_bytes len plen offset = refl
