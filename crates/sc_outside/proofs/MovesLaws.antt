@@ -1,8 +1,8 @@
 -- What a port's moments have to do with each other: nothing moved, one call, and one stretch after another.
-use Rattle.std.proofs.Common.{◌≡◌, ℕ, ◌≤◌, List, [], ◌++◌, length, take, Option, refl, sym, ◌∙◌, subst, arith, length-append, length-take}
+use Rattle.std.proofs.Common.{◌≡◌, ℕ, List, [], ◌++◌, length, take, Option, refl, sym, ◌∙◌, subst, arith, length-append, length-take}
 use Rattle.std.specs.Io.KnownBytes.{Consumes, Appends}
-use Rattle.std.proofs.KnownBytes.{Consumes-nil, Appends-nil, Appends-trans, Consumes-trans}
-use Rattle.sc_outside.specs.Port.{Told, MovesIn, MovesOut, IsUntouched, ReadFails, WriteFails, Moves, Takes, Puts}
+use Rattle.std.proofs.KnownBytes.{Consumes-nil, Consumes-kept, Consumes-trans, Appends-nil, Appends-kept, Appends-trans}
+use Rattle.sc_outside.specs.Port.{Told, MovesIn, MovesOut, ReadFails, WriteFails, Moves, Takes, Puts}
 use Rattle.sc_outside.proofs.JournalSteps.{Logs-none, Logs-read, Logs-written, Logs-trans}
 
 same_left : (a b : Option (List ℕ)) → b ≡ a → Consumes a b []
@@ -11,21 +11,14 @@ same_left a b e = subst (λ x. Consumes a x []) (sym e) (Consumes-nil a)
 same_given : (a b : Option (List ℕ)) → b ≡ a → Appends a b []
 same_given a b e = subst (λ x. Appends a x []) (sym e) (Appends-nil a)
 
--- nothing told changed, and no count fell
-pub Moves-untouched : (a b : Told) → IsUntouched a b → a.read_faults ≤ b.read_faults → a.write_faults ≤ b.write_faults → Moves a b [] []
-Moves-untouched a b h r w = record {
-  left = same_left _ _ h.left;
-  given = same_given _ _ h.given;
-  journal = Logs-none _ _ h.journal;
-  read_faults = r;
-  write_faults = w;
-}
-
-pub IsUntouched-refl : (a : Told) → IsUntouched a a
-IsUntouched-refl a = record { left = refl; given = refl; journal = refl }
-
 pub Moves-none : (a : Told) → Moves a a [] []
-Moves-none a = Moves-untouched a a (IsUntouched-refl a) (omega arith) (omega arith)
+Moves-none a = record {
+  left = Consumes-nil _;
+  given = Appends-nil _;
+  journal = Logs-none _ _ refl;
+  read_faults = omega arith;
+  write_faults = omega arith;
+}
 
 pub Moves-trans : (a b c : Told) (t u p q : List ℕ) → Moves a b t p → Moves b c u q → Moves a c (t ++ u) (p ++ q)
 Moves-trans a b c t u p q x y = record {
@@ -91,15 +84,27 @@ Puts-one a b n piece h =
 -- a read that failed
 pub Takes-failed : (a b : Told) → ReadFails a b → Takes a b []
 Takes-failed a b h = record {
-  moves = Moves-untouched a b h.untouched (omega (arith, h.rose)) (omega (arith, h.write_faults));
-  given = h.untouched.given;
+  moves = record {
+    left = Consumes-kept _ _ _ [] (Consumes-nil _) h.left;
+    given = same_given _ _ h.given;
+    journal = Logs-none _ _ h.journal;
+    read_faults = omega (arith, h.rose);
+    write_faults = omega (arith, h.write_faults);
+  };
+  given = h.given;
   write_faults = h.write_faults;
 }
 
 -- a write that failed
 pub Puts-failed : (a b : Told) → WriteFails a b → Puts a b []
 Puts-failed a b h = record {
-  moves = Moves-untouched a b h.untouched (omega (arith, h.read_faults)) (omega (arith, h.rose));
-  left = h.untouched.left;
+  moves = record {
+    left = same_left _ _ h.left;
+    given = Appends-kept _ _ _ [] (Appends-nil _) h.given;
+    journal = Logs-none _ _ h.journal;
+    read_faults = omega (arith, h.read_faults);
+    write_faults = omega (arith, h.rose);
+  };
+  left = h.left;
   read_faults = h.read_faults;
 }

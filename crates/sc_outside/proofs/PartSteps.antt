@@ -2,7 +2,7 @@
 use Rattle.std.proofs.Common.{◌≡◌, ℕ, ◌+◌, ◌-◌, ◌≤◌, List, ◌++◌, arith, length, take, drop, sym, ap, ◌∙◌, length-take-le, take_all, length-drop}
 use Rattle.std.proofs.lemmas.List.{take-append-le}
 use Rattle.std.proofs.Math.Seq.{take-append-add}
-use borrow.Rule.Slice.PartMut.{put_mid, post_of, take_put, same_len_mid, mid_of}
+use borrow.Rule.Slice.PartMut.{put_mid, post_of, same_len_mid, mid_of}
 
 -- the whole begins with what stood before the part, and then with the start of the part
 pub take-put_part : (f t k : ℕ) (buf part : List ℕ) → f ≤ length buf → t ≤ length part → take (f + t) (put_mid f k buf part) ≡ take f buf ++ take t part
@@ -12,10 +12,6 @@ take-put_part f t k buf part within fits =
     ap (λ n. take (n + t) (take f buf ++ (part ++ after))) (sym before)
     ∙ take-append-add (take f buf) (part ++ after) t
     ∙ ap (λ l. take f buf ++ l) (take-append-le t part after fits)
-
--- what stood before the part is as it was
-pub take-put_before : (f k : ℕ) (buf part : List ℕ) → f ≤ length buf → take f (put_mid f k buf part) ≡ take f buf
-take-put_before f k buf part within = take_put f k buf part within
 
 -- the whole has its length still
 pub length-put_part : (f k : ℕ) (buf part : List ℕ) → length part ≡ length (mid_of f k buf) → length (put_mid f k buf part) ≡ length buf

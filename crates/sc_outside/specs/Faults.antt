@@ -5,3 +5,7 @@ use Rattle.std.specs.Prelude.{ℕ, ◌+◌, ◌-◌, ◌^◌, ◌≤◌, min}
 pub record Rose (before now : ℕ) : Type 0 where
   pub later : before ≤ now
   pub more : min (before + 1) (2 ^ 64 - 1) ≤ now
+
+-- a count after one more; it stands still at its last value
+abbrev pub counted : ℕ → ℕ
+counted n = min (n + 1) (2 ^ 64 - 1)

@@ -1,8 +1,11 @@
 pub mod Faults
 pub mod Journal
-pub mod Memory
+pub mod MemoryPort
+pub mod MemorySink
 pub mod Pending
 pub mod Port
 pub mod Sink
+pub mod StreamPort
+pub mod StreamSink
 pub mod Whole
 pub mod Ends

@@ -1,6 +1,6 @@
 -- What a port tells of itself, and what its calls do to that.
 use Rattle.std.specs.Prelude.{◌≡◌, ℕ, ◌<◌, ◌≤◌, List, [], length, take, Option, Result, Ok, Err}
-use Rattle.std.specs.Io.KnownBytes.{Consumes, Appends, IsAtEnd}
+use Rattle.std.specs.Io.KnownBytes.{Consumes, Appends, Keeps, IsAtEnd}
 use Rattle.sc_outside.specs.declared.journal.Move.{Move}
 use Rattle.sc_outside.specs.declared.journal.Move.TheVariants.{Read, Written}
 use Rattle.sc_outside.specs.declared.error.Failed.{Failed}
@@ -36,21 +36,19 @@ pub record MovesOut (old new : Told) (n : ℕ) (piece : List ℕ) : Type 0 where
   pub write_faults : new.write_faults ≡ old.write_faults
   pub read_faults : new.read_faults ≡ old.read_faults
 
--- A call failed: nothing that is told changed.
-pub record IsUntouched (old new : Told) : Type 0 where
-  pub left : new.left ≡ old.left
+-- A read failed, and that was counted. Nothing was moved.
+pub record ReadFails (old new : Told) : Type 0 where
+  pub left : Keeps old.left new.left
   pub given : new.given ≡ old.given
   pub journal : new.journal ≡ old.journal
-
--- A read failed, and that was counted.
-pub record ReadFails (old new : Told) : Type 0 where
-  pub untouched : IsUntouched old new
   pub rose : Rose old.read_faults new.read_faults
   pub write_faults : new.write_faults ≡ old.write_faults
 
--- A write failed, and that was counted.
+-- A write failed, and that was counted. Nothing was moved.
 pub record WriteFails (old new : Told) : Type 0 where
-  pub untouched : IsUntouched old new
+  pub given : Keeps old.given new.given
+  pub left : new.left ≡ old.left
+  pub journal : new.journal ≡ old.journal
   pub rose : Rose old.write_faults new.write_faults
   pub read_faults : new.read_faults ≡ old.read_faults
 

@@ -1,6 +1,6 @@
 -- What a sink tells of itself, and what a write does to that.
 use Rattle.std.specs.Prelude.{◌≡◌, ℕ, ◌<◌, ◌≤◌, List, length, take, Option, Result, Ok, Err}
-use Rattle.std.specs.Io.KnownBytes.{Appends}
+use Rattle.std.specs.Io.KnownBytes.{Appends, Keeps}
 use Rattle.sc_outside.specs.declared.error.Failed.{Failed}
 use Rattle.sc_outside.specs.Faults.{Rose}
 
@@ -16,9 +16,9 @@ pub record SinkGrows (old new : SinkTold) (n : ℕ) (piece : List ℕ) : Type 0 
   pub given : Appends old.given new.given (take n piece)
   pub faults : new.faults ≡ old.faults
 
--- A write failed, and that was counted.
+-- A write failed, and that was counted. Nothing was moved.
 pub record SinkFails (old new : SinkTold) : Type 0 where
-  pub given : new.given ≡ old.given
+  pub given : Keeps old.given new.given
   pub rose : Rose old.faults new.faults
 
 -- what a write answers

@@ -9,7 +9,9 @@ mod pending;
 mod plan;
 mod port;
 mod sink;
-mod standard;
+mod stream;
+mod stream_port;
+mod stream_sink;
 #[cfg(test)]
 mod tests;
 mod whole;
@@ -21,5 +23,6 @@ pub use memory_sink::MemorySink;
 pub use pending::Pending;
 pub use port::Port;
 pub use sink::Sink;
-pub use standard::{StdPort, StdSink};
+pub use stream_port::{StdPort, StreamPort};
+pub use stream_sink::{StdSink, StreamSink};
 pub use whole::{read_exact_or_end, tell_whole, write_whole};

@@ -1,7 +1,7 @@
 //! A port over bytes in memory, whose calls can be made to fail.
 ghost use Rattle.std.specs.Prelude.{◌≡◌, ◌≤◌, ◌<◌, ◌++◌, [], length, take, drop, IfOk};
 ghost use Rattle.sc_outside.specs.Port.{ReadGives, WriteGives};
-ghost use Rattle.sc_outside.specs.Memory.{ReadsAs, WritesAs, IsMemory};
+ghost use Rattle.sc_outside.specs.MemoryPort.{ReadsAs, WritesAs, IsMemory};
 
 use super::error::{Failed, NoMemory};
 use super::journal::Move;
@@ -31,7 +31,7 @@ pub struct MemoryPort {
 
 impl Model for MemoryPort {
     ghost use Rattle.std.specs.Prelude.{◌≤◌, drop, vec_len, vec_capacity};
-    ghost use Rattle.sc_outside.specs.Memory.{MemoryState};
+    ghost use Rattle.sc_outside.specs.MemoryPort.{MemoryState};
 
     ghost Value = { MemoryState };
 
@@ -159,11 +159,11 @@ impl MemoryPort {
 }
 
 impl Port for MemoryPort {
-    ghost use Rattle.sc_outside.specs.Memory.{told_by};
+    ghost use Rattle.sc_outside.specs.MemoryPort.{told_by};
 
     ghost told = { told_by };
 
-    #[tactic(auto, using(crate::proofs::MemorySteps::memory_reads))]
+    #[tactic(auto, using(crate::proofs::MemoryPortSteps::memory_reads))]
     fn read(&mut self, buf: &mut [u8]) -> Result<usize, Failed>
         requires { 0 < length buf.old }
         ensures gives { ReadGives (told_by self.old) (told_by self.new) buf.new result }
@@ -172,7 +172,7 @@ impl Port for MemoryPort {
         self.read_once(buf)
     }
 
-    #[tactic(auto, using(crate::proofs::MemorySteps::memory_writes))]
+    #[tactic(auto, using(crate::proofs::MemoryPortSteps::memory_writes))]
     fn write(&mut self, piece: &[u8]) -> Result<usize, Failed>
         requires { 0 < length piece.now }
         ensures gives { WriteGives (told_by self.old) (told_by self.new) piece.now result }

@@ -1,7 +1,7 @@
 //! A sink over bytes in memory, whose calls can be made to fail.
 ghost use Rattle.std.specs.Prelude.{◌≡◌, ◌<◌, [], length, IfOk};
 ghost use Rattle.sc_outside.specs.Sink.{SinkGives};
-ghost use Rattle.sc_outside.specs.Memory.{SinksAs, IsMemorySink};
+ghost use Rattle.sc_outside.specs.MemorySink.{SinksAs, IsMemorySink};
 
 use super::error::{Failed, NoMemory};
 use super::plan::FailPlan;
@@ -23,7 +23,7 @@ pub struct MemorySink {
 
 impl Model for MemorySink {
     ghost use Rattle.std.specs.Prelude.{◌≤◌, vec_len, vec_capacity};
-    ghost use Rattle.sc_outside.specs.Memory.{SinkState};
+    ghost use Rattle.sc_outside.specs.MemorySink.{SinkState};
 
     ghost Value = { SinkState };
 
@@ -83,11 +83,11 @@ impl MemorySink {
 }
 
 impl Sink for MemorySink {
-    ghost use Rattle.sc_outside.specs.Memory.{told_by_sink};
+    ghost use Rattle.sc_outside.specs.MemorySink.{told_by_sink};
 
     ghost told = { told_by_sink };
 
-    #[tactic(auto, using(crate::proofs::MemorySteps::memory_sinks))]
+    #[tactic(auto, using(crate::proofs::MemorySinkSteps::memory_sinks))]
     fn write(&mut self, piece: &[u8]) -> Result<usize, Failed>
         requires { 0 < length piece.now }
         ensures gives { SinkGives (told_by_sink self.old) (told_by_sink self.new) piece.now result }

@@ -33,7 +33,7 @@ impl Model for Pending {
 }
 
 impl Pending {
-    /// How many bytes may wait: three times the longest record of a capture, which is 65,535 bytes.
+    /// How many bytes may wait: room for three of the longest records of a capture, which have 65,535 bytes.
     pub const ROOM: usize = 196_608;
 
     /// No bytes. It reserves all the memory that the other calls need.

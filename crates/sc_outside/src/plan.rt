@@ -1,7 +1,7 @@
 //! Which calls of an object in memory fail.
 ghost use Rattle.std.specs.Prelude.{◌≡◌, ◌==◌};
 ghost use Rattle.std.specs.List.{list_any};
-ghost use Rattle.sc_outside.specs.Memory.{counted};
+ghost use Rattle.sc_outside.specs.Faults.{counted};
 
 /// The calls that fail, by their numbers from 0, and how many calls there were so far.
 #[derive(Debug, Drop)]

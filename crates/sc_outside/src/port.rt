@@ -7,7 +7,8 @@ use super::error::Failed;
 /// An input and an output of bytes. Of this project.
 ///
 /// What it holds is optional: an object in memory tells it, an adapter over the machine doesn't.
-/// It counts the faults of its reads and of its writes apart. The counts never fall.
+/// It counts the faults of its reads and of its writes apart. The counts never fall, and a call that succeeds leaves both
+/// as they were.
 pub trait Port {
     /// What it tells: the bytes left to be read, the bytes given, its journal and its two counts of faults.
     ghost told: { Self → Told };

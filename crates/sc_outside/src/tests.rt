@@ -109,6 +109,38 @@ fn a_sink_in_memory(rt: HostRuntime) -> Result<(), Fail> {
     Ok(())
 }
 
+// 65,536 bytes in 1,000 calls.
+#[test]
+fn a_port_of_real_size(rt: HostRuntime) -> Result<(), Fail> {
+    let input = vec![in rt.alloc(); 7; 65_536]?;
+    let none = Vec::new(rt.alloc());
+    let mut port = MemoryPort::new(rt.alloc(), input, 65_536, 1_000, 132, none)?;
+    let mut buf = vec![in rt.alloc(); 0; 65_536]?;
+    // 497 reads and as many writes
+    assert_eq!(rt; read_exact_or_end(&mut port, &mut buf), Ok(65_536));
+    assert_eq!(rt; write_whole(&mut port, &buf), Ok(()));
+    for _ in 0..6 {
+        assert_eq!(rt; port.read(&mut [0]), Ok(0));
+    }
+    assert_eq!(rt; port.read(&mut [0]), Err(Failed));
+    assert_eq!(rt; port.journal().len(), 1_000);
+    assert_eq!(rt; port.given().len(), 65_536);
+    assert!(rt; port.given().iter().all(|byte| *byte == 7));
+    Ok(())
+}
+
+#[test]
+fn a_sink_of_real_size(rt: HostRuntime) -> Result<(), Fail> {
+    let mut sink = MemorySink::new(rt.alloc(), 65_536, Vec::new(rt.alloc()))?;
+    for _ in 0..1_000 {
+        assert_eq!(rt; tell_whole(&mut sink, &[7; 65]), Ok(()));
+    }
+    assert_eq!(rt; tell_whole(&mut sink, &[7; 536]), Ok(()));
+    assert_eq!(rt; tell_whole(&mut sink, b"."), Err(Failed));
+    assert_eq!(rt; sink.given().len(), 65_536);
+    Ok(())
+}
+
 #[test]
 fn the_machines_streams(rt: HostRuntime) -> Result<(), Fail> {
     let mut port = StdPort::new(rt.alloc(), rt.stdin(), rt.stdout())?;
