@@ -1,17 +1,14 @@
 -- The jobs of the program's commands, and what follows from how a run ended.
-use Rattle.std.proofs.Common.{◌≡◌, ◌⊎◌, ◌↔◌, inl, inr, ℕ, ◌+◌, ◌-◌, ◌^◌, ◌<◌, ◌≤◌, Bool, true, false, cond, nat_lt, Option, None, Some, IfSome, List, [], ◌++◌, length, Result, Ok, Err, refl, sym, ap, ◌∙◌, subst, arith, length-append}
+use Rattle.std.proofs.Common.{◌≡◌, ◌⊎◌, ◌↔◌, inl, inr, ℕ, ◌-◌, ◌^◌, ◌<◌, ◌≤◌, Bool, true, false, cond, nat_lt, Option, None, Some, IfSome, List, [], ◌++◌, length, Result, Ok, Err, refl, sym, ap, ◌∙◌, subst, arith, length-append}
 use Rattle.sc_outside.specs.Ends.{Due, Job, told_as, IsProperPrefix, IsJob, Cause, input, read, write, memory, IsCaused, Ends, IsDue, IsOutside, GivesPrefix}
 use Rattle.sc_outside.specs.Faults.{Rose}
 use Rattle.sc_outside.specs.Port.{Told}
-use Rattle.sc_outside.specs.Sink.{SinkTold}
 use Rattle.sc_outside.proofs.EndsLaws.{Ends-due, Ends-prefix, Ends-at_once, Ends-no_memory, Ends-told_as, IsJob-told_as, IsJob-at_once, IsPrefix-nil}
 use Rattle.sc_channel.specs.Channel.{ChannelNumbers}
 use Rattle.sc_channel.specs.Flags.{set_count}
 use Rattle.sc_channel.specs.Loss.{bad_window}
-use Rattle.sc_rtpdump.specs.declared.fault.DumpFault.{DumpFault}
-use Rattle.sc_rtpdump.specs.declared.fault.DumpFault.TheVariants.{Preamble, RecordHead, RecordLength, Truncated, Read, Memory}
 use Rattle.sc_rtpdump.specs.declared.thin.DropFault.{DropFault}
-use Rattle.sc_rtpdump.specs.declared.thin.DropFault.TheVariants.{Dump, More, Fewer, Write}
+use Rattle.sc_rtpdump.specs.declared.thin.DropFault.TheVariants.{Dump, More, Fewer}
 use Rattle.sc_rtpdump.specs.declared.thin.Dropped.{Dropped}
 use Rattle.sc_rtpdump.specs.Record.{Break, short_head, short_length, cut_body, Front, ends, breaks, starts, front_of}
 use Rattle.sc_rtpdump.specs.Capture.{Parts, Reading, no_preamble, reads, reading_of}
@@ -19,8 +16,8 @@ use Rattle.sc_rtpdump.specs.Thin.{break_fault, end_at, rest_end, thinning, thin_
 use Rattle.sc_rtpdump.proofs.ThinLaws.{thinning-IsJob}
 use Rattle.streamcode.specs.declared.end.End.{End}
 use Rattle.streamcode.specs.declared.end.End.TheVariants.{Usage, LossRefused, Capture, MoreRecords, FewerRecords, Thinned, ReadFault, WriteFault, NoMemory}
-use Rattle.streamcode.specs.End.{status_of, note_of, IsTold, end_of_dump, end_of_drop}
-use Rattle.streamcode.specs.Jobs.{refusal, lose_by, lose_job, command_job, job_of, RunEnds, IsDueStatus, IsOutsideStatus, IsQuiet}
+use Rattle.streamcode.specs.End.{status_of, end_of_drop}
+use Rattle.streamcode.specs.Jobs.{refusal, lose_by, lose_job, command_job, IsDueStatus, IsOutsideStatus, IsQuiet}
 use Rattle.streamcode.specs.Words.{Command, lose_word}
 
 -- ends that the words and the input decide

@@ -1,5 +1,5 @@
 -- `lose` in the format's own words.
-use Rattle.std.proofs.Common.{◌≡◌, ◌↔◌, ℕ, ◌<◌, ◌≤◌, ◌⊎◌, inl, inr, ◌==◌, Bool, true, false, cond, nat_lt, is_ok, Option, Some, None, List, [], ◌++◌, length, drop, Result, Ok, Err, refl, sym, ap, ◌∙◌, subst, arith, append-nil}
+use Rattle.std.proofs.Common.{◌≡◌, ◌↔◌, ℕ, ◌<◌, ◌≤◌, ◌⊎◌, inl, inr, ◌==◌, Bool, true, false, cond, nat_lt, is_ok, Option, Some, None, List, [], ◌++◌, length, drop, Result, Ok, Err, refl, sym, ap, ◌∙◌, arith, append-nil}
 use Rattle.std.proofs.lemmas.Bool.{le-ltb, cases_lt, lt-ltb, eqb-true}
 use Rattle.std.proofs.lemmas.List.{nil_from_length}
 use Rattle.sc_outside.specs.Ends.{Due}
@@ -12,13 +12,13 @@ use Rattle.sc_rtpdump.specs.declared.fault.DumpFault.TheVariants.{Preamble, Reco
 use Rattle.sc_rtpdump.specs.declared.thin.DropFault.{DropFault}
 use Rattle.sc_rtpdump.specs.declared.thin.DropFault.TheVariants.{Dump, More, Fewer, Write}
 use Rattle.sc_rtpdump.specs.declared.thin.Dropped.{Dropped}
-use Rattle.sc_rtpdump.specs.Record.{Record, Break, short_head, short_length, cut_body, Front, ends, breaks, starts, front_of, length_field, record_at}
+use Rattle.sc_rtpdump.specs.Record.{Record, short_head, short_length, cut_body, Front, ends, breaks, starts, front_of, length_field, record_at}
 use Rattle.sc_rtpdump.specs.Capture.{IsCapture, AreBytes, Parts, Reading, no_preamble, reads, reading_of, records_bytes, IsReading, BeginsOtherwise}
-use Rattle.sc_rtpdump.specs.Thin.{thinned, break_fault, end_at, rest_end, rest_text, thin_end, thin_text}
+use Rattle.sc_rtpdump.specs.Thin.{thinned, end_at, rest_end, thin_end, thin_text}
 use Rattle.sc_rtpdump.proofs.CaptureLaws.{front_of-end, front_of-head, front_of-length, front_of-body}
 use Rattle.sc_rtpdump.proofs.ReadingLaws.{reading_of-capture, reading_of-sound, reading_of-only, reading_of-otherwise}
 use Rattle.streamcode.specs.declared.end.End.{End}
-use Rattle.streamcode.specs.declared.end.End.TheVariants.{Thinned, Capture, MoreRecords, FewerRecords}
+use Rattle.streamcode.specs.declared.end.End.TheVariants.{Thinned, Capture}
 use Rattle.streamcode.specs.End.{status_of, end_of_drop}
 use Rattle.streamcode.specs.Jobs.{lose_by}
 use Rattle.streamcode.specs.LoseLaws.{due_of_lose, HasRecords, refused, Refusals}
@@ -84,9 +84,9 @@ reading-refused channel flags input preamble parts ok h =
       short = λ few eight less. due (Err (Dump (RecordLength (length parts.records)))) (few_end flags parts (breaks short_length) few (front_of-length tail eight less));
       cut = λ few part. due (Err (Dump (Truncated (length parts.records)))) (few_end flags parts (breaks cut_body) few (front_of-body tail part.0 part.1));
       fewer = λ few none. due (Err (Fewer (length parts.records))) (
-      few_end flags parts ends (omega (arith, few)) (front_of-end tail none)
-      ∙ ap (λ b. cond b (Err (Fewer (length parts.records))) (Ok (record { records = length flags; lost = set_count flags }))) (lt-ltb (length parts.records) (length flags) few)
-      );
+          few_end flags parts ends (omega (arith, few)) (front_of-end tail none)
+          ∙ ap (λ b. cond b (Err (Fewer (length parts.records))) (Ok (record { records = length flags; lost = set_count flags }))) (lt-ltb (length parts.records) (length flags) few)
+          );
     }
 
 -- ---- where status 0 is due

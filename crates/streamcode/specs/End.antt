@@ -1,5 +1,5 @@
 -- How a run of the program ends: its status and its note.
-use Rattle.std.specs.Prelude.{◌≡◌, ◌⊎◌, ℕ, List, [], ◌∷◌, ◌++◌, codes, decimal, Result, Ok, Err}
+use Rattle.std.specs.Prelude.{◌⊎◌, ℕ, List, [], ◌∷◌, ◌++◌, codes, decimal, Result, Ok, Err}
 use Rattle.sc_outside.specs.Sink.{SinkTold}
 use Rattle.sc_outside.specs.Whole.{SinkGets, SinkFailed}
 use Rattle.sc_rtpdump.specs.declared.fault.DumpFault.{DumpFault}

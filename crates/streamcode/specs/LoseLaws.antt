@@ -1,5 +1,5 @@
 -- What is said of `lose` in the format's own words.
-use Rattle.std.specs.Prelude.{◌≡◌, ◌↔◌, ℕ, ◌<◌, ◌≤◌, Bool, true, false, List, [], ◌++◌, length}
+use Rattle.std.specs.Prelude.{◌≡◌, ◌↔◌, ℕ, ◌<◌, ◌≤◌, Bool, true, false, List, [], length}
 use Rattle.sc_outside.specs.Ends.{Due}
 use Rattle.sc_channel.specs.Channel.{ChannelNumbers}
 use Rattle.sc_channel.specs.Flags.{set_count}

@@ -1,6 +1,7 @@
 //! Whole runs over objects in memory. What is wanted is written out by hand from the format.
-use super::run;
+use super::{End, conclude, lose_is_thinning, one_form, one_numeral, run};
 use sc_outside::{MemoryPort, MemorySink};
+use sc_rtpdump::{Dropped, DumpFault};
 use std::alloc::{AllocError, Global};
 use std::test::Fail;
 
@@ -103,21 +104,108 @@ fn lose_thins_and_refuses(rt: HostRuntime) -> Result<(), Fail> {
     Ok(())
 }
 
+// One record of no body with this offset.
+fn empty_record(offset: u32) -> [u8; 8] {
+    let [a, b, c, d] = offset.to_be_bytes();
+    [0, 8, 0, 0, a, b, c, d]
+}
+
+#[test]
+fn thins_three_thousand_records(rt: HostRuntime) -> Result<(), Fail> {
+    let mut line = String::from_str(rt.alloc(), "lose 40 10 4 20 ")?;
+    let mut input = joined(rt.alloc(), &[PREAMBLE])?;
+    let mut kept = joined(rt.alloc(), &[PREAMBLE])?;
+    for i in 0..3000u32 {
+        let record = empty_record(i);
+        input.extend_from_slice(&record)?;
+        // A burst of ten every hundred records.
+        if i % 100 < 10 {
+            line.push('1')?;
+        } else {
+            line.push('0')?;
+            kept.extend_from_slice(&record)?;
+        }
+    }
+    let words = words_of(rt.alloc(), line.as_str())?;
+    let fails = Vec::new(rt.alloc());
+    let mut port = MemoryPort::new(rt.alloc(), input, 100_000, 10_000, 65_536, fails)?;
+    let mut notes = MemorySink::new(rt.alloc(), 128, Vec::new(rt.alloc()))?;
+    assert_eq!(rt; run(rt.alloc(), &words, &mut port, &mut notes), 0);
+    assert!(rt; port.given() == kept.as_slice());
+    assert_eq!(rt; notes.given(), b"records 3000 lost 300\n".as_slice());
+    Ok(())
+}
+
+// Each end with its status and its note, as the program's page has them.
+#[test]
+fn every_end_has_its_note(rt: HostRuntime) -> Result<(), Fail> {
+    let done = Dropped {
+        records: 4_000_000,
+        lost: 0,
+    };
+    for (end, status, note) in [
+        (End::Thinned(done), 0, "records 4000000 lost 0\n"),
+        (End::LossRefused(17), 1, "loss refused at window 17\n"),
+        (End::Usage, 2, "usage\n"),
+        (End::Capture(DumpFault::Preamble), 3, "preamble\n"),
+        (End::Capture(DumpFault::RecordHead(0)), 3, "record 0 head\n"),
+        (
+            End::Capture(DumpFault::RecordLength(10)),
+            3,
+            "record 10 length\n",
+        ),
+        (
+            End::Capture(DumpFault::Truncated(4_294_967_295)),
+            3,
+            "record 4294967295 cut\n",
+        ),
+        (End::MoreRecords(2), 3, "flags 2 more records\n"),
+        (End::FewerRecords(2, 1), 3, "flags 2 records 1\n"),
+        (End::ReadFault, 7, "read fault\n"),
+        (End::WriteFault, 8, "write fault\n"),
+        (End::NoMemory, 9, "no memory\n"),
+    ] {
+        let mut notes = MemorySink::new(rt.alloc(), 128, Vec::new(rt.alloc()))?;
+        assert_eq!(rt; conclude(&mut notes, end), status);
+        assert_eq!(rt; notes.given(), note.as_bytes());
+        // A sink with less room gets the beginning, and the status stays.
+        let mut short = MemorySink::new(rt.alloc(), 3, Vec::new(rt.alloc()))?;
+        assert_eq!(rt; conclude(&mut short, end), status);
+        assert!(rt; note.as_bytes().starts_with(short.given()) && short.given().len() == 3);
+        // The fault of a capture prints its note.
+        if let End::Capture(fault) = end {
+            let printed = format!(in rt.alloc(); "{fault}\n")?;
+            assert_eq!(rt; printed.as_str(), note);
+        }
+    }
+    lose_is_thinning();
+    one_form();
+    one_numeral();
+    Ok(())
+}
+
 #[test]
 fn faults_of_the_port_are_told(rt: HostRuntime) -> Result<(), Fail> {
     let all: &[&[u8]] = &[PREAMBLE, FIRST, SECOND, THIRD];
     let whole = joined(rt.alloc(), &[PREAMBLE, FIRST, THIRD])?;
-    // In pieces of 7 bytes, 20 calls read the preamble, byte by byte within its line, and the next 7 write it.
-    for (room, fail, status, note) in [
-        (1000, 0, 7, "read fault\n"),
-        (1000, 19, 7, "read fault\n"),
-        (1000, 20, 8, "write fault\n"),
-        (50, 1000, 8, "write fault\n"),
+    // In pieces of 7 bytes, 20 calls read the preamble, byte by byte within its line, and the next 7 write it. Then 3 read
+    // each record, and what waits is written last. Of the bytes due so many are given.
+    for (room, fail, status, note, given) in [
+        (1000, 0, 7, "read fault\n", 0),
+        (1000, 19, 7, "read fault\n", 0),
+        (1000, 20, 8, "write fault\n", 0),
+        (1000, 22, 8, "write fault\n", 14),
+        (1000, 27, 7, "read fault\n", 44),
+        (1000, 29, 7, "read fault\n", 44),
+        (1000, 30, 7, "read fault\n", 53),
+        (1000, 35, 7, "read fault\n", 53),
+        (50, 1000, 8, "write fault\n", 50),
     ] {
         let answer = answer_of(rt.alloc(), "lose 3 2 1 2 010", all, room, fail)?;
-        assert_eq!(rt; answer.status, status);
+        assert_eq!(rt; answer.status, status, "{room} {fail}");
         assert_eq!(rt; answer.note.as_slice(), note.as_bytes());
         assert!(rt; whole.as_slice().starts_with(answer.given.as_slice()));
+        assert_eq!(rt; answer.given.len(), given, "{room} {fail}");
     }
     Ok(())
 }

@@ -6,7 +6,7 @@ use Rattle.sc_rtpdump.specs.Thin.{thinning}
 use Rattle.streamcode.specs.End.{end_of_drop}
 use Rattle.streamcode.specs.Jobs.{lose_job}
 use Rattle.streamcode.specs.Words.{is_lost}
-use Rattle.streamcode.proofs.JobLaws.{lose_memory, lose_refused, lose_thinned, lose_reads}
+use Rattle.streamcode.proofs.JobLaws.{lose_memory, lose_refused, lose_thinned}
 use Rattle.streamcode.proofs.LossWord.{loss_word-length}
 use Rattle.streamcode.proofs.lose.lose.Goals as goal
 

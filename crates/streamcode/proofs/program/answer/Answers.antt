@@ -1,9 +1,7 @@
-use Rattle.std.proofs.Common.{◌≡◌, false, None, sym, ap, ◌∙◌, subst}
-use Rattle.std.specs.Option.{option_map}
+use Rattle.std.proofs.Common.{◌≡◌, false, None, sym, subst}
 use Rattle.sc_outside.specs.Ends.{Ends}
 use Rattle.sc_outside.proofs.EndsLaws.{Ends-at_once}
 use Rattle.streamcode.specs.declared.end.End.TheVariants.{Usage, ReadFault, WriteFault, NoMemory}
-use Rattle.streamcode.specs.Command.{meaning}
 use Rattle.streamcode.specs.Jobs.{command_job}
 use Rattle.streamcode.specs.Words.{command_of, texts}
 use Rattle.streamcode.proofs.program.answer.Goals as goal
