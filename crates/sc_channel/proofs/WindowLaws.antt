@@ -5,7 +5,7 @@ use Rattle.std.specs.Option.{option_map}
 use Rattle.sc_channel.specs.Channel.{ChannelNumbers}
 use Rattle.sc_channel.specs.Flags.{set_count, span, window}
 use Rattle.sc_channel.specs.Loss.{IsFine, few, close, AllWindowsFine, IsAdmissible, IsFirstBadWindow, is_fine, bad_window}
-use Rattle.sc_channel.proofs.FineParts.{IsAdmissible-from_windows, IsAdmissible-no_bad}
+use Rattle.sc_channel.proofs.FineLaws.{IsAdmissible-from_windows, IsAdmissible-no_bad}
 
 or_cases : (a b : Bool) → (a || b) ≡ true → (a ≡ true) ⊎ (b ≡ true)
 or_cases true b h = inl refl

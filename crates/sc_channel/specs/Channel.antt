@@ -1,6 +1,5 @@
 -- The numbers of a channel, after the sliding-window erasure channel of Badr and others.
 use Rattle.std.specs.Prelude.{ℕ, ◌<◌, ◌≤◌, ◌&&◌, Bool, nat_lt, nat_le}
-use Rattle.sc_channel.specs.declared.channel.TheConstants.{MAX_WINDOW, MAX_DEADLINE}
 
 -- the numbers of a channel, in slots: the length of a window, the greatest span, the number of losses that a
 -- window may have anywhere, and the deadline
@@ -20,10 +19,10 @@ pub record IsOrdered (w b n t : ℕ) : Type 0 where
 -- the numbers are in order and within this project's limits
 pub record IsChannel (channel : ChannelNumbers) : Type 0 where
   pub ordered : IsOrdered channel.w channel.b channel.n channel.t
-  pub window_limit : channel.w ≤ MAX_WINDOW
-  pub deadline_limit : channel.t ≤ MAX_DEADLINE
+  pub window_limit : channel.w ≤ 255
+  pub deadline_limit : channel.t ≤ 40
 
 -- a test of the same
 unfoldable pub is_channel : ChannelNumbers → Bool
 is_channel c =
-    nat_le 1 c.n && nat_le c.n c.b && nat_le c.b c.t && nat_lt c.t c.w && nat_le c.w MAX_WINDOW && nat_le c.t MAX_DEADLINE
+    nat_le 1 c.n && nat_le c.n c.b && nat_le c.b c.t && nat_lt c.t c.w && nat_le c.w 255 && nat_le c.t 40

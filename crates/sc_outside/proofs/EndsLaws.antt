@@ -1,8 +1,6 @@
 -- What follows from how a call ended, and how the end of a call is told as that of the call around it.
-use Rattle.std.proofs.Common.{◌≡◌, ◌≢◌, ◌⊎◌, inl, inr, ℕ, ◌<◌, Bool, true, false, List, [], ◌++◌, length, Option, None, Some, IfSome, refl, sym, ap, ◌∙◌, subst, arith, append-nil, append_assoc, length-append}
+use Rattle.std.proofs.Common.{◌≡◌, ◌⊎◌, inl, inr, ℕ, Bool, true, List, [], ◌++◌, Option, None, Some, IfSome, refl, sym, ap, ◌∙◌, subst, append-nil, append_assoc}
 use Rattle.std.specs.Io.KnownBytes.{IsAtEnd, Consumes, Appends}
-use Rattle.std.proofs.KnownBytes.{Consumes-nil, Appends-nil}
-use Rattle.sc_outside.specs.Faults.{Rose}
 use Rattle.sc_outside.specs.Port.{Told, Moves}
 use Rattle.sc_outside.specs.Ends.{Due, Job, IsPrefix, IsProperPrefix, IsJob, IsLeft, IsDecided, IsShort, Cause, input, read, write, memory, IsCaused, Ends, told_as, only, at_once, IsDue, IsOutside, GivesPrefix}
 use Rattle.sc_outside.proofs.MovesLaws.{Moves-none}
@@ -16,13 +14,6 @@ IsPrefix-nil text = record { rest = text; parts = refl }
 
 pub IsPrefix-trans : (a b c : List ℕ) → IsPrefix a b → IsPrefix b c → IsPrefix a c
 IsPrefix-trans a b c x y = record { rest = x.rest ++ y.rest; parts = y.parts ∙ ap (λ l. l ++ y.rest) x.parts ∙ append_assoc a x.rest y.rest }
-
-pub IsProperPrefix-within : (a b c : List ℕ) → IsProperPrefix a b → IsPrefix b c → IsProperPrefix a c
-IsProperPrefix-within a b c x y = record {
-  rest = x.rest ++ y.rest;
-  parts = y.parts ∙ ap (λ l. l ++ y.rest) x.parts ∙ append_assoc a x.rest y.rest;
-  more = omega (arith, length-append x.rest y.rest, x.more);
-}
 
 pub IsProperPrefix-is : (a b : List ℕ) → IsProperPrefix a b → IsPrefix a b
 IsProperPrefix-is a b x = record { rest = x.rest; parts = x.parts }

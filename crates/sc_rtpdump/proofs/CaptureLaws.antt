@@ -6,7 +6,7 @@ use Rattle.std.proofs.lemmas.Bool.{lt-ltb, le-ltb, false_from_ne_true, eqb-true}
 use Rattle.std.proofs.Math.Seq.{take-append-add}
 use Rattle.std.specs.Int.{w16, w32, from_be_bytes}
 use Rattle.std.specs.List.{AllByRecursion}
-use Rattle.sc_rtpdump.specs.Record.{Record, IsRecord, record_bytes, head_bytes, length_field, record_at, Break, short_head, short_length, cut_body, Front, ends, breaks, starts, front_of}
+use Rattle.sc_rtpdump.specs.Record.{Record, IsRecord, record_bytes, head_bytes, length_field, record_at, short_head, short_length, cut_body, Front, ends, breaks, starts, front_of}
 use Rattle.sc_rtpdump.specs.Preamble.{IsPreamble, preamble_len}
 use Rattle.sc_rtpdump.specs.Capture.{records_bytes, Parts, with_first, parts_within, parts_of, no_preamble, reads, reading_with, reading_of}
 use Rattle.sc_rtpdump.proofs.HeadLaws.{length_field-head}
@@ -174,21 +174,6 @@ reading_of-preamble pre bytes h =
 pub reading_of-none : (bytes : List ℕ) → preamble_len bytes ≡ None → reading_of bytes ≡ no_preamble
 unfolding reading_of
 reading_of-none bytes e = ap (λ n. reading_with n bytes) e
-
--- where no record is at the front, there is none
-pub parts_within-none : (m : ℕ) (bytes : List ℕ) → front_of bytes ≡ ends → parts_within m bytes ≡ record { records = []; tail = bytes }
-parts_within-none zero bytes e = refl
-parts_within-none (suc m) bytes e = ap (after_front m bytes) e
-
-pub parts_within-broken : (m : ℕ) (bytes : List ℕ) (break : Break) → front_of bytes ≡ breaks break → parts_within m bytes ≡ record { records = []; tail = bytes }
-parts_within-broken zero bytes break e = refl
-parts_within-broken (suc m) bytes break e = ap (after_front m bytes) e
-
--- where one is at the front, it is the first
-pub parts_within-found : (m : ℕ) (e : Record) (rest : List ℕ) → IsRecord e → length (record_bytes e ++ rest) ≤ m
-    → (p : Parts) × (parts_within m (record_bytes e ++ rest) ≡ with_first e p)
-parts_within-found zero e rest h room = absurd (omega (arith, room, length-append (record_bytes e) rest, length-record_bytes e))
-parts_within-found (suc m) e rest h room = (parts_within m rest, ap (after_front m (record_bytes e ++ rest)) (front_of-record e rest h))
 
 -- the parts of whole records and others
 pub parts_of-along : (es : List Record) (rest : List ℕ) → AllByRecursion IsRecord es

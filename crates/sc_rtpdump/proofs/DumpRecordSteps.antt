@@ -1,12 +1,9 @@
 -- Buffers that hold a record.
-use Rattle.std.proofs.Common.{◌≡◌, ℕ, ◌+◌, ◌-◌, ◌^◌, ◌<◌, ◌≤◌, List, ◌++◌, length, take, drop, refl, sym, ap, ◌∙◌, subst, arith, length-append, length-drop}
+use Rattle.std.proofs.Common.{◌≡◌, ℕ, ◌+◌, ◌-◌, ◌^◌, ◌<◌, ◌≤◌, List, ◌++◌, length, take, drop, sym, ap, ◌∙◌, subst, arith, length-append, length-drop}
 use Rattle.std.proofs.Math.Seq.{take-append-add}
 use Rattle.std.proofs.lemmas.List.{length-take-le}
 use Rattle.sc_rtpdump.specs.Record.{record_bytes, head_bytes}
 use Rattle.sc_rtpdump.specs.DumpRecord.{HoldsRecord}
-
-pub length-head_bytes : (len plen offset : ℕ) → length (head_bytes len plen offset) ≡ 8
-length-head_bytes len plen offset = refl
 
 -- a head before bytes of which it counts some
 pub HoldsRecord-made : (len plen offset : ℕ) (rest : List ℕ) → length rest ≡ 65527 → 8 ≤ len → len ≤ 65535 → plen < 2 ^ 16 → offset < 2 ^ 32

@@ -34,9 +34,6 @@ use Rattle.sc_rtpdump.proofs.ThinLaws.{kept-none, records_bytes-append, text-app
 
 -- ---- what is carried
 
-pub Carries-none : (a : Told) (waiting : List ℕ) → Carries a a [] [] waiting waiting
-Carries-none a waiting = record { put = []; moves = Moves-none a; parts = append-nil waiting }
-
 -- what waited was given in part
 pub Carries-put : (a b : Told) (before after put : List ℕ) → before ≡ put ++ after → Puts a b put → Carries a b [] [] before after
 Carries-put a b before after put parts puts = record { put = put; moves = puts.moves; parts = append-nil before ∙ parts }
@@ -300,9 +297,6 @@ no_record tail front at h e rest found = h e rest (sym at ∙ found)
 broken : (tail : List ℕ) (break : Break) → front_of tail ≡ breaks break → (e : Record) (rest : List ℕ) → front_of tail ≡ starts e rest → ⊥
 broken tail break at = no_record tail (breaks break) at (λ e rest h. cc)
 
-none_there : (e : Record) (rest : List ℕ) → front_of [] ≡ starts e rest → ⊥
-none_there = no_record [] ends (front_of-end [] refl) (λ e rest h. cc)
-
 -- how thinning ends there
 end_there : (flags : List Bool) (pre tail : List ℕ) (es : List Record) (front : Front) → IsPreamble pre → AllByRecursion IsRecord es → length es ≤ length flags → front_of tail ≡ front
     → ((e : Record) (rest : List ℕ) → front ≡ starts e rest → ⊥) → thin_end flags (reading_of (pre ++ (records_bytes es ++ tail))) ≡ end_at flags (length es) front
@@ -389,9 +383,6 @@ decided_by flags a d pre rest n tail answer w left e t ended = record {
 at_end_left : (left : Option (List ℕ)) → IsAtEnd left → IsLeft left []
 at_end_left None h = tt
 at_end_left (Some xs) h = h
-
-nothing_more : (pre bytes : List ℕ) → (pre ++ bytes) ++ [] ≡ pre ++ bytes
-nothing_more pre bytes = append-nil (pre ++ bytes)
 
 -- at the end of the input
 decided_end : (flags : List Bool) (a d : Told) (pre : List ℕ) (n : ℕ) (tail : List ℕ) (front : Front) → (w : Whole flags a d pre n tail []) → n ≤ length flags → IsAtEnd d.left

@@ -13,7 +13,7 @@ pub use fault::DumpFault;
 pub use next::{next_record, write_record};
 pub use preamble::{Preamble, read_preamble};
 pub use reading_laws::one_reading;
-pub use record::DumpRecord;
+pub use record::{DumpRecord, MAX_BODY};
 pub use thin::{DropFault, Dropped, drop_records, thinning_is_a_job};
 
 #[cfg(test)]

@@ -6,7 +6,7 @@ ghost use Rattle.sc_rtpdump.specs.Next.{NextGives};
 
 use super::fault::DumpFault;
 use super::head::{HEAD, Head, read_head};
-use super::record::DumpRecord;
+use super::record::{DumpRecord, MAX_BODY};
 use sc_outside::{Failed, Port, write_whole};
 
 /// Reads the next record into `rec`, and takes exactly its bytes; false at the end of the input. `index` is the record's
@@ -41,7 +41,7 @@ pub fn write_record<P: Port>(
     plen: u16,
     body: &[u8],
 ) -> Result<(), Failed>
-    requires { length body.now ≤ 65527 }
+    requires { length body.now ≤ MAX_BODY }
     ensures ok { OnOk result (PutsAll (P.told port.old) (P.told port.new)
         (record_bytes (record { plen = plen; offset = offset; body = body.now }))) }
     ensures err { OnErr result (WriteFailed (P.told port.old) (P.told port.new)

@@ -1,5 +1,6 @@
 //! The preamble of a capture.
-ghost use Rattle.std.specs.Prelude.{◌≡◌, ◌≤◌, [], length, vec_capacity};
+ghost use Rattle.std.specs.Prelude.{◌≡◌, ◌≤◌, [], length, vec_capacity, ◌+◌, ◌-◌};
+ghost use Rattle.sc_rtpdump.specs.declared.preamble.TheConstants.{LINE_LIMIT, FIELDS};
 ghost use Rattle.sc_rtpdump.specs.Preamble.{IsPreamble, PreambleGives, PartsGive, MagicGives, ByteGives, LineGives};
 
 use super::fault::DumpFault;
@@ -25,6 +26,7 @@ pub struct Preamble {
 
 impl Model for Preamble {
     ghost use Rattle.std.specs.Prelude.{List, ℕ};
+    ghost use Rattle.sc_rtpdump.specs.declared.preamble.TheConstants.{LINE_LIMIT, FIELDS};
     ghost use Rattle.sc_rtpdump.specs.Preamble.{IsPreamble};
 
     ghost Value = { List ℕ };
@@ -90,8 +92,8 @@ fn read_line<P: Port>(port: &mut P, bytes: &mut [u8]) -> Result<Option<usize>, F
 /// longest line behind the magic.
 fn read_parts<P: Port>(port: &mut P, bytes: &mut Vec<u8>, line: &mut [u8]) -> Result<(), DumpFault>
     requires empty { bytes.old.items ≡ [] }
-    requires room { 4112 ≤ vec_capacity bytes.old }
-    requires line { length line.old ≡ 4083 }
+    requires room { LINE_LIMIT + FIELDS ≤ vec_capacity bytes.old }
+    requires line { length line.old ≡ LINE_LIMIT - 13 }
     ensures { PartsGive (P.told port.old) (P.told port.new) bytes.new.items result }
 {
     match read_magic(port) {

@@ -12,6 +12,9 @@ use std::marker::Model;
 /// The longest record, in bytes: its length is a number of 16 bits.
 pub(crate) const LONGEST: usize = 65_535;
 
+/// The longest body of a record, in bytes: that of the longest record, without the eight bytes before it.
+pub const MAX_BODY: usize = LONGEST - HEAD;
+
 /// A record of a capture, with room for the longest body, of 65,527 bytes.
 ///
 /// It has the packet's true length, which is 0 for RTCP, the offset in milliseconds since the start, and the body: the

@@ -130,10 +130,6 @@ pub lose_thinned : (channel : ChannelNumbers) (flags : List Bool) (old new : Tol
 lose_thinned channel flags old new result e h =
     subst (λ w. Ends (lose_by w flags) old new (end_of_drop (length flags) result)) (sym e) (Ends-told_as (end_of_drop (length flags)) (thinning flags) old new result h)
 
--- a loss that isn't refused is a job that reads
-pub lose_reads : (channel : ChannelNumbers) (flags : List Bool) → bad_window channel flags ≡ None → (lose_job channel flags).reads ≡ true
-lose_reads channel flags e = ap (λ w. (lose_by w flags).reads) e
-
 -- ---- the status of a command's run, by its cause
 
 module _ (job : Job End) (p : IsProgramJob job) (old new : Told) (end : End) where

@@ -6,7 +6,7 @@ use Rattle.sc_outside.specs.Ends.{Due}
 use Rattle.sc_channel.specs.Channel.{ChannelNumbers}
 use Rattle.sc_channel.specs.Flags.{set_count}
 use Rattle.sc_channel.specs.Loss.{IsAdmissible, bad_window}
-use Rattle.sc_channel.proofs.FineParts.{IsAdmissible-no_bad}
+use Rattle.sc_channel.proofs.FineLaws.{IsAdmissible-no_bad}
 use Rattle.sc_channel.proofs.WindowLaws.{bad_window-some, bad_window-admissible, admissible-no_bad_window}
 use Rattle.sc_rtpdump.specs.declared.fault.DumpFault.TheVariants.{Preamble, RecordHead, RecordLength, Truncated, Read, Memory}
 use Rattle.sc_rtpdump.specs.declared.thin.DropFault.{DropFault}

@@ -2,8 +2,8 @@ use Rattle.std.proofs.Common.{◌+◌, Some, None, refl, sym, arith}
 use Rattle.std.proofs.lemmas.Bool.{true≢false}
 use Rattle.sc_channel.specs.Loss.{IsFine}
 use Rattle.sc_channel.specs.Sweep.{recent}
-use Rattle.sc_channel.proofs.FineParts.{IsAdmissible-from_windows, IsAdmissible-window, IsAdmissible-no_bad}
-use Rattle.sc_channel.proofs.Sweeping.{RecentFine-more, recent_close, recent_few, recent_kept, bad_found, all_fine}
+use Rattle.sc_channel.proofs.FineLaws.{IsAdmissible-from_windows, IsAdmissible-window, IsAdmissible-no_bad}
+use Rattle.sc_channel.proofs.SweepSteps.{RecentFine-more, recent_close, recent_few, recent_kept, bad_found, all_fine}
 use Rattle.sc_channel.proofs.WindowLaws.{bad_window-is}
 use Rattle.sc_channel.proofs.loss.first_bad_window.Goals as goal
 use Rattle.sc_channel.proofs.loss.first_bad_window.Goals.{else-flags-i-via-then-flags-i+then-n-set+else-start-early_end, else-flags-i-via-then-flags-i+else-n-set, else-flags-i-via-else-flags-i}

@@ -1,6 +1,6 @@
 -- What the walk keeps, and that the last w flags were fine at each flag so far.
 use Rattle.sc_channel.specs.Sweep.{IsRecentCount, IsEarlyEnd}
-use Rattle.sc_channel.proofs.Sweeping.{RecentFine}
+use Rattle.sc_channel.proofs.SweepSteps.{RecentFine}
 use Rattle.sc_channel.proofs.loss.first_bad_window.Given as goal
 
 abbrev pub invariant-loop-i : goal.invariant-loop-i

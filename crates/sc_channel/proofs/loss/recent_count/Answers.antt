@@ -1,6 +1,6 @@
 -- Flag i enters the last w flags, and flag i - w leaves them.
 use Rattle.std.proofs.Common.{arith}
-use Rattle.sc_channel.proofs.Sweeping.{recent_sums}
+use Rattle.sc_channel.proofs.SweepSteps.{recent_sums}
 use Rattle.sc_channel.proofs.loss.recent_count.Goals as goal
 
 pub overflow_sub-result : goal.overflow_sub-result

@@ -4,7 +4,7 @@ use Rattle.std.specs.List.{position_or_len}
 use Rattle.std.proofs.lemmas.Bool.{both_ways, cases_lt, cond_both, ltb-true, ltb-false}
 use Rattle.std.proofs.lemmas.List.Sums.{fails_before_first, passes_at_first}
 use Rattle.sc_channel.specs.Flags.{IsSet, first_set, last_of, last_set, places_across, span}
-use Rattle.sc_channel.proofs.SetCount.{IsSet-in_range}
+use Rattle.sc_channel.proofs.SetCountSteps.{IsSet-in_range}
 
 -- any two set flags lie less than b places apart
 abbrev pub SetWithin : ℕ → List Bool → Type 0

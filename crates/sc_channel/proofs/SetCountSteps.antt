@@ -36,11 +36,6 @@ set_count-append xs ys = sum_by-append (λ flag. cond flag 1 0) xs ys
 pub set_count-cons : (flag : Bool) (flags : List Bool) → set_count (flag ∷ flags) ≡ cond flag 1 0 + set_count flags
 set_count-cons flag flags = sum_by-cons (λ x. cond x 1 0) flag flags
 
--- a part has no more set flags than the whole
-pub set_count-part : (before part after : List Bool) → set_count part ≤ set_count (before ++ (part ++ after))
-set_count-part before part after =
-    omega (arith, set_count-append before (part ++ after), set_count-append part after)
-
 cond-le : (flag : Bool) → cond flag 1 0 ≤ 1
 cond-le true = omega arith
 cond-le false = omega arith

@@ -1,12 +1,12 @@
 -- Parts of fine flags are fine, and a loss is admissible where all its windows are fine.
-use Rattle.std.proofs.Common.{◌≡◌, ℕ, ◌+◌, ◌<◌, ◌≤◌, Bool, List, [], ◌++◌, ◌⊎◌, ◌↔◌, length, take, drop, ap, subst, arith, ◌∙◌, inl, inr, zero-add}
+use Rattle.std.proofs.Common.{◌≡◌, ℕ, ◌+◌, ◌<◌, ◌≤◌, Bool, List, [], ◌++◌, ◌↔◌, length, take, drop, ap, subst, arith, ◌∙◌, inl, inr, zero-add}
 use Rattle.std.proofs.lemmas.Bool.{cases_lt}
 use Rattle.std.proofs.lemmas.List.{append_assoc, take-append-drop, length-take, length-append, nil_from_length}
 use Rattle.sc_channel.specs.Channel.{ChannelNumbers}
 use Rattle.sc_channel.specs.Flags.{IsSet, set_count, span, window}
 use Rattle.sc_channel.specs.Loss.{IsFine, few, close, IsAdmissible, AllWindowsFine, IsFirstBadWindow}
-use Rattle.sc_channel.proofs.SetCount.{IsSet-in_range, IsSet-part, IsSet-take, IsSet-take_from, IsSet-drop, IsSet-drop_from, set_count-drop, set_count-fewer}
-use Rattle.sc_channel.proofs.Span.{span-le}
+use Rattle.sc_channel.proofs.SetCountSteps.{IsSet-in_range, IsSet-part, IsSet-take, IsSet-take_from, IsSet-drop, IsSet-drop_from, set_count-drop, set_count-fewer}
+use Rattle.sc_channel.proofs.SpanSteps.{span-le}
 
 -- no flags are fine
 pub IsFine-nil : (b n : ℕ) → IsFine b n []
@@ -16,17 +16,6 @@ IsFine-nil b n = few (omega arith)
 pub IsFine-refuted : (b n : ℕ) (flags : List Bool) → n < set_count flags → b < span flags → IsFine b n flags → ⊥
 IsFine-refuted b n flags many wide (few h) = absurd (omega arith)
 IsFine-refuted b n flags many wide (close h) = absurd (omega arith)
-
--- flags are fine or not
-pub IsFine-cases : (b n : ℕ) (flags : List Bool) → IsFine b n flags ⊎ (IsFine b n flags → ⊥)
-IsFine-cases b n flags =
-    elim (cases_lt n (set_count flags)) [
-      | inl many ↦ elim (cases_lt b (span flags)) [
-        | inl wide ↦ inr (IsFine-refuted b n flags many wide)
-        | inr close_enough ↦ inl (close close_enough)
-      ]
-      | inr few_enough ↦ inl (few few_enough)
-    ]
 
 -- flags stay fine where they are moved and fewer of them are set
 pub IsFine-moved : (b n : ℕ) (xs ys : List Bool) (places : ℕ) → ((k : ℕ) → IsSet ys k → IsSet xs (places + k)) → IsFine b n xs → IsFine b n ys

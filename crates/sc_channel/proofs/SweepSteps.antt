@@ -7,9 +7,9 @@ use Rattle.sc_channel.specs.Channel.{ChannelNumbers}
 use Rattle.sc_channel.specs.Flags.{IsSet, set_count, window}
 use Rattle.sc_channel.specs.Loss.{IsFine, few, close, IsAdmissible, IsFirstBadWindow}
 use Rattle.sc_channel.specs.Sweep.{recent, IsRecentCount, IsEarlyEnd}
-use Rattle.sc_channel.proofs.SetCount.{IsSet-in_range, IsSet-take, IsSet-take_from, IsSet-drop, IsSet-drop_from, set_count_more, set_count_up_to, set_count-between}
-use Rattle.sc_channel.proofs.Span.{span-le}
-use Rattle.sc_channel.proofs.FineParts.{IsFine-moved, IsFine-fewer, IsSet-window, IsSet-window_from, IsSet-of_part}
+use Rattle.sc_channel.proofs.SetCountSteps.{IsSet-in_range, IsSet-take, IsSet-take_from, IsSet-drop, IsSet-drop_from, set_count_more, set_count_up_to, set_count-between}
+use Rattle.sc_channel.proofs.SpanSteps.{span-le}
+use Rattle.sc_channel.proofs.FineLaws.{IsFine-moved, IsFine-fewer, IsSet-window, IsSet-window_from, IsSet-of_part}
 
 from_bool-cond : (flag : Bool) → cond flag 1 0 ≡ from_bool flag
 from_bool-cond true = refl
