@@ -3,3 +3,4 @@ pub mod ScaledSum
 pub mod SumSteps
 pub mod Vectors
 pub mod Tables
+pub mod Wide

@@ -6,7 +6,7 @@ mod gf2;
 mod gf256;
 mod scale;
 
-pub use field::Field;
+pub use field::{Field, element_of};
 pub use gf2::Gf2;
 pub use gf256::Gf256;
 pub use scale::{Multiplier, scale_add};

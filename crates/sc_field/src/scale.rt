@@ -4,7 +4,7 @@
 //! the xor of two entries of tables with 16 entries each, as in the vector kernels of Reed-Solomon libraries.
 ghost use Rattle.std.specs.Prelude.{◌≡◌, ⊤, ◌+◌, ◌*◌, ◌<◌, ◌≤◌, ℕ, map, bit_xor, length, slice_index};
 ghost use Rattle.std.specs.Simd.Lanes.{chunk, put_chunk, zip2};
-ghost use Rattle.sc_field.specs.Scale.{scaled_sum, IsTableOf, IsByHalves};
+ghost use Rattle.sc_field.specs.Scale.{scaled_sum, IsTableOf, IsByHalves, IsRepeated};
 
 use crate::field::Field;
 use std::alloc::AllocError;
@@ -12,6 +12,9 @@ use std::simd::prelude::*;
 
 // The bytes of a vector.
 const LANES: usize = 16;
+
+// The bytes of a wide vector.
+const WIDE: usize = 32;
 
 /// Adds `c` times `src` to `dst`: each `dst[x]` becomes `dst[x]` xor `act(c, src[x])`.
 ///
@@ -79,8 +82,10 @@ impl<F: Field> Multiplier<F> {
     {
         if dst.len() < LANES {
             self.add_by_halves(dst, src);
-        } else {
+        } else if dst.len() < WIDE {
             self.add_by_vectors(dst, src);
+        } else {
+            self.add_by_wide(dst, src);
         }
     }
 
@@ -107,15 +112,44 @@ impl<F: Field> Multiplier<F> {
         requires long { LANES ≤ length dst.old }
         ensures { dst.new ≡ scaled_sum (F.act self.now.coefficient) dst.old src.now }
     {
+        let tables = *self;
         let end = dst.len() - LANES;
-        let last = self.sum(load(dst, end), load(src, end));
+        let last = tables.sum(load(dst, end), load(src, end));
         let mut at = 0;
         while at < end {
-            let next = self.sum(load(dst, at), load(src, at));
+            let next = tables.sum(load(dst, at), load(src, at));
             store(dst, at, next);
             at += LANES;
         }
         store(dst, end, last);
+    }
+
+    fn add_by_wide(&self, dst: &mut [u8], src: &[u8])
+        requires same { length src.now ≡ length dst.old }
+        requires long { WIDE ≤ length dst.old }
+        ensures { dst.new ≡ scaled_sum (F.act self.now.coefficient) dst.old src.now }
+    {
+        let tables = *self;
+        let end = dst.len() - WIDE;
+        let last = tables.wide_sum(load_wide(dst, end), load_wide(src, end));
+        let mut at = 0;
+        while at < end {
+            let next = tables.wide_sum(load_wide(dst, at), load_wide(src, at));
+            store_wide(dst, at, next);
+            at += WIDE;
+        }
+        store_wide(dst, end, last);
+    }
+
+    #[inline(always)]
+    fn wide_sum(&self, dst: u8x32, src: u8x32) -> u8x32
+        ensures { result ≡ zip2 bit_xor dst (map (F.act self.now.coefficient) src) }
+    {
+        let lows = twice(&self.low);
+        let highs = twice(&self.high);
+        let low = lows.swizzle_dyn_within::<16>(src & u8x32::splat(15));
+        let high = highs.swizzle_dyn_within::<16>(src >> u8x32::splat(4));
+        dst ^ (low ^ high)
     }
 
     // One vector of `dst` with the coefficient times one of `src` added.
@@ -152,6 +186,32 @@ fn load(s: &[u8], at: usize) -> u8x16
 #[inline(always)]
 fn store(s: &mut [u8], at: usize, v: u8x16)
     requires { at + 16 ≤ length s.old }
+    ensures { s.new ≡ put_chunk at s.old v }
+{
+    v.copy_to_slice(&mut s[at..]);
+}
+
+#[inline(always)]
+fn twice(table: &[u8; 16]) -> u8x32
+    ensures { IsRepeated table.now result }
+{
+    u8x16::from_slice(table).swizzle([
+        0, 1, 2, 3, 4, 5, 6, 7, 8, 9, 10, 11, 12, 13, 14, 15, 0, 1, 2, 3, 4, 5, 6, 7, 8, 9, 10, 11,
+        12, 13, 14, 15,
+    ])
+}
+
+#[inline(always)]
+fn load_wide(s: &[u8], at: usize) -> u8x32
+    requires { at + 32 ≤ length s.now }
+    ensures { result ≡ chunk at 32 s.now }
+{
+    u8x32::from_slice(&s[at..])
+}
+
+#[inline(always)]
+fn store_wide(s: &mut [u8], at: usize, v: u8x32)
+    requires { at + 32 ≤ length s.old }
     ensures { s.new ≡ put_chunk at s.old v }
 {
     v.copy_to_slice(&mut s[at..]);

@@ -1,5 +1,5 @@
 //! Worked values of both fields, and each public call once at each field.
-ghost use Rattle.std.specs.Prelude.{◌≢◌, ◌≤◌};
+ghost use Rattle.std.specs.Prelude.{◌≡◌, ◌≢◌, ◌≤◌};
 
 use super::*;
 use std::process::Abort;
@@ -15,6 +15,15 @@ fn quotient<F: Field>(a: F, b: F) -> F
     requires { b ≢ F.zero }
 {
     a.mul(b.inv())
+}
+
+// Kept as a byte, and read back.
+fn kept<F: Field>(a: F) -> F
+    ensures { result ≡ a }
+{
+    a.known();
+    let byte = a.number();
+    element_of(byte)
 }
 
 #[test]
@@ -35,6 +44,7 @@ fn gf256_products(rt: HostRuntime) -> Result<(), Fail> {
         assert_eq!(rt; a.act(y), product, "{x} on {y}");
         assert_eq!(rt; a.add(b).number(), x ^ y);
         assert_eq!(rt; a.add(b).sub(b), a);
+        assert_eq!(rt; kept(b), b);
         b.known();
     }
     let two = Gf256::from(2);
@@ -54,6 +64,7 @@ fn gf2_products(rt: HostRuntime) -> Result<(), Fail> {
         assert_eq!(rt; a.sub(b).number(), sum, "{x} - {y}");
         assert_eq!(rt; a.mul(b).number(), product, "{x} * {y}");
         assert_eq!(rt; a.act(0x53), 0x53 * x, "{x} on a byte");
+        assert_eq!(rt; kept(b), b);
         b.known();
     }
     assert_eq!(rt; Gf2::from_number(2), None);

@@ -1,0 +1,15 @@
+use Rattle.std.proofs.Common.{ap, bit_xor}
+use Rattle.std.specs.Simd.Lanes.{zip2}
+use Rattle.sc_field.proofs.Wide.{low_ok, high_ok, products_by_halves}
+use Rattle.sc_field.proofs.scale.Multiplier.wide_sum.Goals as goal
+
+pub swizzle-low : goal.swizzle-low
+swizzle-low g c = low_ok c.args.src c.fits-src
+
+pub swizzle-high : goal.swizzle-high
+swizzle-high g c = high_ok c.args.src c.fits-src
+
+pub returns : goal.returns
+returns g c =
+    let self = c.args.self.now in
+    ap (zip2 bit_xor c.args.dst) (products_by_halves (g.F.Field.act self.coefficient) self.low self.high _ _ c.args.src c.fits-src self.products c.twice-lows.ensures c.twice-highs.ensures)
