@@ -13,7 +13,7 @@ pub use field::{Field, element_of};
 pub use gf2::Gf2;
 pub use gf256::Gf256;
 pub use multiplier::Multiplier;
-pub use scale::scale_add;
+pub use scale::{add_bytes, scale_add};
 pub use terms::{Term, combine, combine_add};
 
 #[cfg(test)]
