@@ -1,5 +1,5 @@
 //! Products of a field's element with many bytes at once.
-ghost use Rattle.std.specs.Prelude.{◌≡◌, ◌+◌, ◌≤◌, map, length};
+ghost use Rattle.std.specs.Prelude.{◌≡◌, ◌+◌, ◌≤◌, map, length, if◌then◌else◌};
 ghost use Rattle.sc_field.specs.Scale.{scaled_sum};
 
 use crate::field::Field;
@@ -24,17 +24,31 @@ pub fn scale_add<F: Field>(dst: &mut [u8], c: F, src: &[u8])
     requires { length src.now ≡ length dst.old }
     ensures { dst.new ≡ scaled_sum (F.act c) dst.old src.now }
 {
+    if add_unscaled(dst, c, src) {
+        return;
+    }
+    if dst.len() < 32 {
+        add_by_bytes(dst, c, src);
+    } else {
+        Multiplier::new(c).add_scaled(dst, src);
+    }
+}
+
+// Where `c` is zero or one there is nothing to look up. Of any other coefficient it says so, and leaves `dst` as it is.
+#[inline(always)]
+fn add_unscaled<F: Field>(dst: &mut [u8], c: F, src: &[u8]) -> bool
+    requires { length src.now ≡ length dst.old }
+    ensures { dst.new ≡ (if result then scaled_sum (F.act c) dst.old src.now else dst.old) }
+{
     c.known();
     if c == F::zero() {
-        return;
+        return true;
     }
     if c == F::one() {
         add_bytes(dst, src);
-    } else if dst.len() < 32 {
-        add_by_bytes(dst, c, src);
-    } else {
-        Multiplier::new(c).scale_add(dst, src);
+        return true;
     }
+    false
 }
 
 fn add_by_bytes<F: Field>(dst: &mut [u8], c: F, src: &[u8])
@@ -50,6 +64,16 @@ impl<F: Field> Multiplier<F> {
     /// Adds the coefficient times `src` to `dst`: each `dst[x]` becomes `dst[x]` xor
     /// `act(coefficient, src[x])`.
     pub fn scale_add(&self, dst: &mut [u8], src: &[u8])
+        requires { length src.now ≡ length dst.old }
+        ensures { dst.new ≡ scaled_sum (F.act self.now.coefficient) dst.old src.now }
+    {
+        if !add_unscaled(dst, self.coefficient, src) {
+            self.add_scaled(dst, src);
+        }
+    }
+
+    #[inline(always)]
+    fn add_scaled(&self, dst: &mut [u8], src: &[u8])
         requires { length src.now ≡ length dst.old }
         ensures { dst.new ≡ scaled_sum (F.act self.now.coefficient) dst.old src.now }
     {

@@ -1,7 +1,7 @@
 use Rattle.std.proofs.Common.{◌≡◌, ℕ, get_or, sym, ap, ◌∙◌}
 use Rattle.sc_field.specs.Scale.{scaled_sum}
 use Rattle.sc_field.proofs.ScaledSum.{scaled_sum-none, scaled_sum-same}
-use Rattle.sc_field.proofs.scale.scale_add.Goals as goal
+use Rattle.sc_field.proofs.scale.add_unscaled.Goals as goal
 
 pub returns-then-eq : goal.returns-then-eq
 returns-then-eq g c =
