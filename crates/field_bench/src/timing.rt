@@ -1,9 +1,9 @@
 //! Speeds of sums of multiples, a line for each job and number of bytes.
-ghost use Rattle.std.specs.Prelude.{◌≡◌, ◌≤◌, true, All, length};
+ghost use Rattle.std.specs.Prelude.{◌≡◌, ◌≤◌, All, length};
 ghost use Rattle.sc_field.specs.Terms.{IsWithin};
 
 use crate::bytes::patterned;
-use sc_field::{Field, Gf256, Multiplier, Term, combine};
+use sc_field::{Field, Gf256, Multiplier, Term, all_within, combine};
 use std::io;
 use std::time::{Clock, Instant};
 
@@ -65,18 +65,6 @@ fn terms_of(count: usize, n: usize) -> [Term<Gf256>; 256]
         };
     }
     terms
-}
-
-/// Whether the source has room for each of the terms.
-fn all_within(terms: &[Term<Gf256>], width: usize, src: &[u8]) -> bool
-    ensures { result ≡ true → All (λ t. IsWithin width src.now t.at) terms.now }
-{
-    for term in terms {
-        if src.len() < width || src.len() - width < term.at {
-            return false;
-        }
-    }
-    true
 }
 
 #[inline(never)]

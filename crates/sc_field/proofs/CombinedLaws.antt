@@ -1,5 +1,5 @@
 -- What holds of a sum of terms, for the crates above.
-use Rattle.std.proofs.Common.{◌≡◌, ℕ, ◌+◌, ◌<◌, List, [], ◌∷◌, ◌++◌, length, get_or, take, drop, fold, replicate, bit_xor, true, refl, sym, ap, ap₂, ◌∙◌, arith}
+use Rattle.std.proofs.Common.{◌≡◌, ℕ, ◌+◌, ◌<◌, List, [], ◌∷◌, ◌++◌, length, get_or, take, drop, replicate, bit_xor, true, sym, ap, ◌∙◌, arith}
 use Rattle.std.specs.List.{All}
 use Rattle.std.specs.Int.Bits.{xor_assoc, xor_zero_r}
 use Rattle.std.proofs.lemmas.Grind.{same_number_lists}
@@ -8,7 +8,6 @@ use Rattle.std.proofs.lemmas.List.Sums.{fold-append}
 use Rattle.std.proofs.lemmas.Simd.{get_or-replicate}
 use Rattle.sc_field.specs.Scale.{scaled_sum}
 use Rattle.sc_field.specs.Terms.{combined, sum_at, IsWithin}
-use Rattle.sc_field.proofs.Making.{length-sum_from, sum_from_same}
 use Rattle.sc_field.proofs.ScaledSum.{length-scaled_sum, get_or-scaled_sum}
 use Rattle.sc_field.proofs.Sums.{length-combined, get_or-combined, length-whole, get_or-whole}
 

@@ -1,5 +1,5 @@
-use Rattle.std.proofs.Common.{◌≡◌, ℕ, ◌+◌, slice_index, ◌∙◌, subst, arith}
-use Rattle.sc_field.specs.Terms.{Lanes, two_ends, piece}
+use Rattle.std.proofs.Common.{ℕ, ◌+◌, slice_index, ◌∙◌, subst, arith}
+use Rattle.sc_field.specs.Terms.{Lanes, two_ends}
 use Rattle.sc_field.proofs.Making.{two_loaded, one_loaded, piece_eight, piece_four, piece_two, piece_one}
 use Rattle.sc_field.proofs.lanes.load_short.Goals.{then-n-ge8, else-n-ge8, then-n-ge4, else-n-ge4, then-n-ge2, else-n-ge2}
 use Rattle.sc_field.proofs.lanes.load_short.Goals as goal

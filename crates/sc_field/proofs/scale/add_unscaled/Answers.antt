@@ -1,5 +1,4 @@
-use Rattle.std.proofs.Common.{◌≡◌, ℕ, get_or, sym, ap, ◌∙◌}
-use Rattle.sc_field.specs.Scale.{scaled_sum}
+use Rattle.std.proofs.Common.{◌≡◌, get_or, sym, ap, ◌∙◌}
 use Rattle.sc_field.proofs.ScaledSum.{scaled_sum-none, scaled_sum-same}
 use Rattle.sc_field.proofs.scale.add_unscaled.Goals as goal
 

@@ -1,4 +1,4 @@
-use Rattle.std.proofs.Common.{◌+◌, length, arith}
+use Rattle.std.proofs.Common.{◌+◌, arith}
 use Rattle.sc_field.proofs.Making.{begun_with_zeros, begun_with_old}
 use Rattle.sc_field.proofs.terms.begin.Goals.{then-fresh, else-fresh}
 use Rattle.sc_field.proofs.terms.begin.Goals as goal

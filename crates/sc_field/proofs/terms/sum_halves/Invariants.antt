@@ -1,4 +1,4 @@
-use Rattle.std.proofs.Common.{◌∷◌, ◌+◌, length, take, get_or}
+use Rattle.std.proofs.Common.{◌∷◌, length, take, get_or}
 use Rattle.sc_field.specs.Terms.{two_ends, sum_at, sum_from, Lanes}
 use Rattle.sc_field.proofs.terms.sum_halves.Given as goal
 

@@ -1,6 +1,5 @@
-use Rattle.std.proofs.Common.{[], ◌∷◌, ◌+◌, length, get_or, bit_xor, refl, arith}
+use Rattle.std.proofs.Common.{[], ◌+◌, get_or, bit_xor, arith}
 use Rattle.sc_field.specs.Terms.{sum_from}
-use Rattle.sc_field.proofs.Making.{piece_fits}
 use Rattle.sc_field.proofs.Sums.{added, term_more, all_terms}
 use Rattle.sc_field.proofs.terms.sum_pair.Goals as goal
 

@@ -1,4 +1,4 @@
-use Rattle.std.proofs.Common.{◌∷◌, ◌≡◌, ℕ, ◌+◌, ◌-◌, ◌<◌, ◌≤◌, List, length, get_or, refl, subst, arith}
+use Rattle.std.proofs.Common.{◌∷◌, ◌≡◌, ℕ, ◌+◌, ◌-◌, ◌≤◌, List, length, get_or, subst, arith}
 use Rattle.std.specs.Simd.Lanes.{put_chunk}
 use Rattle.sc_field.specs.Terms.{combined, sum_at, sum_from}
 use Rattle.sc_field.proofs.Making.{IsMade, more_made, last_made}

@@ -1,4 +1,4 @@
-use Rattle.std.proofs.Common.{◌∷◌, length, arith}
+use Rattle.std.proofs.Common.{◌∷◌, arith}
 use Rattle.sc_field.proofs.Sums.{no_bytes}
 use Rattle.sc_field.proofs.terms.write_sum.Goals as goal
 

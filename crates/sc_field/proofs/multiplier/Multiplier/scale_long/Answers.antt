@@ -1,4 +1,4 @@
-use Rattle.std.proofs.Common.{◌≡◌, ℕ, ◌+◌, ◌-◌, List, length, get_or, map, refl, arith}
+use Rattle.std.proofs.Common.{◌+◌, ◌-◌, length, get_or, map, refl, arith}
 use Rattle.sc_field.proofs.Making.{scaled_lanes, more_made, last_made, length-mapped, get_or-mapped}
 use Rattle.sc_field.proofs.multiplier.Multiplier.scale_long.Goals as goal
 

@@ -1,5 +1,4 @@
-use Rattle.std.proofs.Common.{ap, refl, bit_xor}
-use Rattle.std.specs.Simd.Lanes.{zip2}
+use Rattle.std.proofs.Common.{refl}
 use Rattle.sc_field.proofs.Vectors.{low_ok, high_ok, products_by_halves}
 use Rattle.sc_field.proofs.multiplier.Multiplier.times.Goals as goal
 

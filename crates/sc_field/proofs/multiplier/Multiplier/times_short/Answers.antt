@@ -1,5 +1,4 @@
-use Rattle.std.proofs.Common.{ap, refl, bit_xor, arith}
-use Rattle.std.specs.Simd.Lanes.{zip2}
+use Rattle.std.proofs.Common.{refl, arith}
 use Rattle.sc_field.proofs.Vectors.{low_ok, high_ok, products_by_halves, IsRepeated-once}
 use Rattle.sc_field.proofs.multiplier.Multiplier.times_short.Goals as goal
 
