@@ -106,6 +106,30 @@ piece_fits n low high =
       ]
     ]
 
+-- where the piece is below 8, 4 or 2, so is n
+pub piece_below_eight : (n : ℕ) → piece n < 8 → n < 8
+piece_below_eight n lt =
+    elim (cases_lt n 8) [
+      | inl below ↦ below
+      | inr above ↦ (let e = piece_eight n above in absurd (omega arith))
+    ]
+
+pub piece_below_four : (n : ℕ) → piece n < 4 → n < 4
+piece_below_four n lt =
+    let small = piece_below_eight n (omega arith) in
+    elim (cases_lt n 4) [
+      | inl below ↦ below
+      | inr above ↦ (let e = piece_four n above small in absurd (omega arith))
+    ]
+
+pub piece_below_two : (n : ℕ) → piece n < 2 → n < 2
+piece_below_two n lt =
+    let small = piece_below_four n (omega arith) in
+    elim (cases_lt n 2) [
+      | inl below ↦ below
+      | inr above ↦ (let e = piece_two n above small in absurd (omega arith))
+    ]
+
 -- neighbouring lanes of a vector, as `extract` gives them
 pub extracted : (a w : ℕ) (v : List ℕ) → a + w ≤ length v → map (λ k. get_or (v ++ v) k 0) (range_with_len a w) ≡ chunk a w v
 extracted a w v room =

@@ -48,24 +48,41 @@ pub(crate) fn store_halves(s: &mut [u8], v: u8x32)
     v.extract::<16, 16>().copy_to_slice(&mut s[end..]);
 }
 
-// The first 8 and the last 8 of the `n` bytes from `at` on, where there are so many, or the first 4 and the last 4, and so
-// on. They may lie over one another.
+// The largest of 8, 4, 2 and 1 that is at most `n`.
+pub(crate) fn piece_of(n: usize) -> usize
+    ensures { result ≡ piece n }
+{
+    if n < 2 {
+        1
+    } else if n < 4 {
+        2
+    } else if n < 8 {
+        4
+    } else {
+        8
+    }
+}
+
+// The first `width` and the last `width` of the `n` bytes from `at` on, where `width` is the largest of 8, 4, 2 and 1 that is at
+// most `n`. They may lie over one another.
 #[inline(always)]
-pub(crate) fn load_short(s: &[u8], at: usize, n: usize) -> u8x16
-    requires { (at + n ≤ length s.now) × (1 ≤ n) }
+pub(crate) fn load_short(s: &[u8], at: usize, n: usize, width: usize) -> u8x16
+    requires room { at + n ≤ length s.now }
+    requires short { (1 ≤ n) × (n < 16) }
+    requires width { width ≡ piece n }
     ensures { Lanes result 16 (piece n + piece n) (λ j. slice_index s.now (at + two_ends (piece n) n j)) }
 {
-    if n >= 8 {
+    if width >= 8 {
         u8x8::from_slice(&s[at..]).shuffle(
             u8x8::from_slice(&s[at + n - 8..]),
             [0, 1, 2, 3, 4, 5, 6, 7, 8, 9, 10, 11, 12, 13, 14, 15],
         )
-    } else if n >= 4 {
+    } else if width >= 4 {
         u8x4::from_slice(&s[at..]).shuffle(
             u8x4::from_slice(&s[at + n - 4..]),
             [0, 1, 2, 3, 4, 5, 6, 7, 0, 1, 2, 3, 4, 5, 6, 7],
         )
-    } else if n >= 2 {
+    } else if width >= 2 {
         u8x2::from_slice(&s[at..]).shuffle(
             u8x2::from_slice(&s[at + n - 2..]),
             [0, 1, 2, 3, 0, 1, 2, 3, 0, 1, 2, 3, 0, 1, 2, 3],

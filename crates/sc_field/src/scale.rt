@@ -1,9 +1,9 @@
 //! Products of a field's element with many bytes at once.
-ghost use Rattle.std.specs.Prelude.{◌≡◌, ◌+◌, ◌≤◌, map, length, if◌then◌else◌};
+ghost use Rattle.std.specs.Prelude.{◌≡◌, ◌+◌, ◌<◌, ◌≤◌, map, length, if◌then◌else◌};
 ghost use Rattle.sc_field.specs.Scale.{scaled_sum};
 
 use crate::field::Field;
-use crate::lanes::{load, load_halves, load_short, store, store_halves, store_short};
+use crate::lanes::{load, load_halves, load_short, piece_of, store, store_halves, store_short};
 use crate::multiplier::Multiplier;
 use crate::terms::{Term, write_sum};
 
@@ -108,9 +108,18 @@ impl<F: Field> Multiplier<F> {
             let product = self.times(load_halves(dst, 0, dst.len()));
             store_halves(dst, product);
         } else if dst.len() > 0 {
-            let product = self.times_short(load_short(dst, 0, dst.len()));
-            store_short(dst, product);
+            self.scale_short(dst);
         }
+    }
+
+    fn scale_short(&self, dst: &mut [u8])
+        requires { (1 ≤ length dst.old) × (length dst.old < 16) }
+        ensures { dst.new ≡ map (F.act self.now.coefficient) dst.old }
+    {
+        let n = dst.len();
+        let width = piece_of(n);
+        let product = self.times_short(load_short(dst, 0, n, width));
+        store_short(dst, product);
     }
 
     // The last vector ends with the slice and may lie over the one before. So it is worked out from the bytes as they were.

@@ -88,8 +88,12 @@ pub(crate) fn write_sum<F: Field>(
         write_pair(dst, first, rest, src, fresh);
     } else if dst.len() >= 16 {
         write_halves(dst, first, rest, src, fresh);
+    } else if dst.len() >= 8 {
+        write_short(dst, first, rest, src, fresh, 8);
+    } else if dst.len() >= 4 {
+        write_short(dst, first, rest, src, fresh, 4);
     } else if dst.len() > 0 {
-        write_short(dst, first, rest, src, fresh);
+        write_few(dst, first, rest, src, fresh);
     }
 }
 
@@ -144,13 +148,35 @@ fn write_halves<F: Field>(
     store_halves(dst, sum);
 }
 
-#[inline(always)]
-fn write_short<F: Field>(dst: &mut [u8], first: &Term<F>, rest: &[Term<F>], src: &[u8], fresh: bool)
+// Apart from the others, so that these can stand where they are called.
+#[inline(never)]
+fn write_few<F: Field>(dst: &mut [u8], first: &Term<F>, rest: &[Term<F>], src: &[u8], fresh: bool)
     requires within { IsWithin (length dst.old) src.now first.now.at × All (λ t. IsWithin (length dst.old) src.now t.at) rest.now }
-    requires long { (1 ≤ length dst.old) × (length dst.old < 16) }
+    requires few { (1 ≤ length dst.old) × (length dst.old < 4) }
     ensures { dst.new ≡ combined (λ t. F.act t.multiplier.coefficient) (λ t. t.at) (first.now ∷ rest.now) (sum_from fresh dst.old) src.now }
 {
-    let sum = sum_short(dst, first, rest, src, fresh);
+    if dst.len() >= 2 {
+        write_short(dst, first, rest, src, fresh, 2);
+    } else {
+        write_short(dst, first, rest, src, fresh, 1);
+    }
+}
+
+#[inline(always)]
+fn write_short<F: Field>(
+    dst: &mut [u8],
+    first: &Term<F>,
+    rest: &[Term<F>],
+    src: &[u8],
+    fresh: bool,
+    width: usize,
+)
+    requires within { IsWithin (length dst.old) src.now first.now.at × All (λ t. IsWithin (length dst.old) src.now t.at) rest.now }
+    requires long { (1 ≤ length dst.old) × (length dst.old < 16) }
+    requires width { width ≡ piece (length dst.old) }
+    ensures { dst.new ≡ combined (λ t. F.act t.multiplier.coefficient) (λ t. t.at) (first.now ∷ rest.now) (sum_from fresh dst.old) src.now }
+{
+    let sum = sum_short(dst, first, rest, src, fresh, width);
     store_short(dst, sum);
 }
 
@@ -240,18 +266,23 @@ fn sum_short<F: Field>(
     rest: &[Term<F>],
     src: &[u8],
     fresh: bool,
+    width: usize,
 ) -> u8x16
     requires within { IsWithin (length dst.now) src.now first.now.at × All (λ t. IsWithin (length dst.now) src.now t.at) rest.now }
     requires long { (1 ≤ length dst.now) × (length dst.now < 16) }
+    requires width { width ≡ piece (length dst.now) }
     ensures { Lanes result 16 (piece (length dst.now) + piece (length dst.now)) (λ j. sum_at (λ t. F.act t.multiplier.coefficient) (λ t. t.at) (first.now ∷ rest.now) src.now (two_ends (piece (length dst.now)) (length dst.now) j) (slice_index (sum_from fresh dst.now) (two_ends (piece (length dst.now)) (length dst.now) j))) }
 {
     let n = dst.len();
-    let mut sum = first
-        .multiplier
-        .add_short(begin_short(dst, fresh), load_short(src, first.at, n));
+    let mut sum = first.multiplier.add_short(
+        begin_short(dst, fresh, width),
+        load_short(src, first.at, n, width),
+    );
     for i in 0..rest.len() {
         let term = &rest[i];
-        sum = term.multiplier.add_short(sum, load_short(src, term.at, n));
+        sum = term
+            .multiplier
+            .add_short(sum, load_short(src, term.at, n, width));
     }
     sum
 }
@@ -281,13 +312,14 @@ fn begin_halves(dst: &[u8], fresh: bool) -> u8x32
 }
 
 #[inline(always)]
-fn begin_short(dst: &[u8], fresh: bool) -> u8x16
-    requires { (1 ≤ length dst.now) × (length dst.now < 16) }
+fn begin_short(dst: &[u8], fresh: bool, width: usize) -> u8x16
+    requires short { (1 ≤ length dst.now) × (length dst.now < 16) }
+    requires width { width ≡ piece (length dst.now) }
     ensures { Lanes result 16 (piece (length dst.now) + piece (length dst.now)) (λ j. slice_index (sum_from fresh dst.now) (two_ends (piece (length dst.now)) (length dst.now) j)) }
 {
     if fresh {
         u8x16::splat(0)
     } else {
-        load_short(dst, 0, dst.len())
+        load_short(dst, 0, dst.len(), width)
     }
 }
