@@ -1,58 +1,83 @@
-ghost use Rattle.std.specs.Prelude.{◌≡◌, length, true, IfOk};
-ghost use Rattle.sc_field.specs.Scale.{scaled_sum};
+//! Whether the ways to work out a sum of multiples agree in the program that was built.
+ghost use Rattle.std.specs.Prelude.{◌≡◌, true, IfOk};
 
 use crate::bytes::patterned;
-use sc_field::{Field, Gf256, Multiplier, scale_add};
+use sc_field::{Field, Gf256, Multiplier, Term, all_within, combine, combine_add, scale_add};
 use std::alloc::{AllocError, Global};
 use std::io;
 
-/// The lengths that are compared: below, at and above one vector and two, and the longest that packets need.
-const LENGTHS: [usize; 9] = [1, 15, 16, 20, 31, 148, 512, 1472, 65503];
+/// The lengths that are compared: around the widths of vectors, those of symbols, and the longest that packets need.
+const LENGTHS: [usize; 13] = [1, 6, 15, 16, 20, 31, 33, 41, 134, 148, 512, 1472, 65503];
 
 /// The numbers of the coefficients that are compared.
 const COEFFICIENTS: [u8; 6] = [0, 1, 2, 29, 142, 255];
 
-/// Adds `c` times `src` to `dst`, a byte at a time.
-fn add_by_act<F: Field>(dst: &mut [u8], c: F, src: &[u8])
-    requires { length src.now ≡ length dst.old }
-    ensures { dst.new ≡ scaled_sum (F.act c) dst.old src.now }
-{
-    for i in 0..dst.len() {
-        dst[i] ^= c.act(src[i]);
-    }
-}
-
-/// Whether `scale_add`, its prepared form and the loop over bytes write the same, at this coefficient and length. It is
-/// proved that they do; run, it shows that of the program that was built.
+/// Whether `scale_add` and its prepared form write the same, at this coefficient and length. It is proved that they do.
 fn agrees(alloc: Global, c: Gf256, n: usize) -> Result<bool, AllocError>
     ensures { IfOk result (λ same. same ≡ true) }
 {
     let src = patterned(alloc, n, 11)?;
     let mut plain = patterned(alloc, n, 200)?;
     let mut prepared = plain.to_vec(alloc)?;
-    let mut by_act = plain.to_vec(alloc)?;
     scale_add(&mut plain, c, &src);
     Multiplier::new(c).scale_add(&mut prepared, &src);
-    add_by_act(&mut by_act, c, &src);
-    Ok(plain == by_act && prepared == by_act)
+    Ok(plain == prepared)
 }
 
-/// Whether the three ways agree at this length, at each of the coefficients.
+/// Adds `c` times the bytes of `src` from `at` on to `dst`, a byte at a time.
+fn add_by_act(dst: &mut [u8], c: Gf256, src: &[u8], at: usize) {
+    for i in 0..dst.len() {
+        let place = at.saturating_add(i);
+        if place < src.len() {
+            dst[i] ^= c.act(src[place]);
+        }
+    }
+}
+
+/// Whether one output from these terms is what the walk over bytes gives, and the same once more added to it is zero.
+fn walk_agrees(
+    alloc: Global,
+    terms: &[Term<Gf256>],
+    n: usize,
+    src: &[u8],
+) -> Result<bool, AllocError> {
+    let mut fused = patterned(alloc, n, 200)?;
+    let mut walked = vec![in alloc; 0; n]?;
+    if !all_within(terms, fused.len(), src) {
+        return Ok(false);
+    }
+    combine(&mut fused, terms, src);
+    for term in terms {
+        add_by_act(&mut walked, term.multiplier.coefficient, src, term.at);
+    }
+    if fused != walked || !all_within(terms, fused.len(), src) {
+        return Ok(false);
+    }
+    combine_add(&mut fused, terms, src);
+    Ok(fused.iter().all(|byte| *byte == 0))
+}
+
+/// Whether all ways agree at this length.
 fn all_agree(alloc: Global, n: usize) -> Result<bool, AllocError> {
+    let src = patterned(alloc, n.saturating_add(6), 11)?;
+    let mut terms = Vec::new(alloc);
     for number in COEFFICIENTS {
-        match Gf256::from_number(number) {
-            Some(c) => {
-                if !agrees(alloc, c, n)? {
-                    return Ok(false);
-                }
-            }
-            None => return Ok(false),
+        let c = Gf256::from(number);
+        if !agrees(alloc, c, n)? {
+            return Ok(false);
+        }
+        terms.push(Term {
+            multiplier: Multiplier::new(c),
+            at: terms.len(),
+        })?;
+        if !walk_agrees(alloc, &terms, n, &src)? {
+            return Ok(false);
         }
     }
     Ok(true)
 }
 
-/// Prints for each length whether the three ways agree there.
+/// Prints for each length whether all ways agree there.
 pub fn print<R: AllocGlobal + Print>(rt: &R) -> io::Result<()> {
     for n in LENGTHS {
         let verdict = if all_agree(rt.alloc(), n)? {

@@ -1,7 +1,7 @@
-//! The speed at which `sc_field` adds a multiple of one slice to another.
+//! The speed at which `sc_field` adds multiples of slices up.
 //!
-//! With no argument it compares three ways to work out such sums, and prints whether they agree: that is the same
-//! on every machine. With the single argument `time` it prints speeds.
+//! With no argument it compares the ways to work out such sums, and prints whether they agree: that is the same
+//! on every machine. With the single argument `time` it prints speeds, as bench/README.md says.
 #![tactic(auto)]
 
 mod bytes;

@@ -22,12 +22,19 @@ pub record IsField {A : Type 0} (IsElement : A → Type 0) (zero one : A) (add s
   pub mul_add : (x y z : A) → IsElement x → IsElement y → IsElement z → mul x (add y z) ≡ add (mul x y) (mul x z)
   pub mul_inv : (x : A) → IsElement x → x ≢ zero → mul x (inv x) ≡ one
 
--- Each element has a number of its own, which fits a byte. Zero has 0 and one has 1.
-pub record IsNumbered {A : Type 0} (IsElement : A → Type 0) (zero one : A) (number : A → ℕ) : Type 0 where
+-- Each element has a number of its own, which fits a byte, and `element` of that number is the element again. Zero has 0
+-- and one has 1.
+pub record IsNumbered {A : Type 0} (IsElement : A → Type 0) (zero one : A) (number : A → ℕ) (element : ℕ → A) : Type 0 where
   pub below : (x : A) → IsElement x → number x < 256
   pub injective : (x y : A) → IsElement x → IsElement y → number x ≡ number y → x ≡ y
   pub of_zero : number zero ≡ 0
   pub of_one : number one ≡ 1
+  pub element_number : (x : A) → IsElement x → element (number x) ≡ x
+
+-- n is the number of an element
+pub record IsNumber {A : Type 0} (IsElement : A → Type 0) (number : A → ℕ) (element : ℕ → A) (n : ℕ) : Type 0 where
+  pub is_element : IsElement (element n)
+  pub same : number (element n) ≡ n
 
 -- The product of an element and a byte: the bytes with xor are a module over the field.
 pub record IsAction {A : Type 0} (IsElement : A → Type 0) (zero one : A) (add mul : A → A → A) (act : A → ℕ → ℕ) : Type 0 where

@@ -1,5 +1,5 @@
 ghost use Rattle.std.specs.Prelude.{◌≡◌, ◌≢◌, ℕ, MatchOption};
-ghost use Rattle.sc_field.specs.Field.{IsField, IsNumbered, IsAction, IsExact};
+ghost use Rattle.sc_field.specs.Field.{IsField, IsNumbered, IsNumber, IsAction, IsExact};
 
 /// A finite field with at most 256 elements, whose elements act on bytes.
 ///
@@ -24,6 +24,9 @@ pub trait Field: Copy + Eq {
     ghost inv: { Self → Self };
 
     ghost number: { Self → ℕ };
+
+    // The element that has a number; it says nothing of what is no element's number.
+    ghost element: { ℕ → Self };
 
     // The product of an element and a byte.
     ghost act: { Self → ℕ → ℕ };
@@ -77,9 +80,24 @@ pub trait Field: Copy + Eq {
 
     ghost field: { IsField IsElement zero one add sub mul inv };
 
-    ghost numbered: { IsNumbered IsElement zero one number };
+    ghost numbered: { IsNumbered IsElement zero one number element };
 
     ghost action: { IsAction IsElement zero one add mul act };
 
     ghost exact: { IsExact IsElement Self.eq };
+
+    // The number of an element is its product with the byte 1. So numbers are added and multiplied as bytes are.
+    ghost by_number: { (x : Self) → IsElement x → act x 1 ≡ number x };
+}
+
+/// The element with this number, for a number that is known to be one. It is [`Field::from_number`] without the question.
+pub fn element_of<F: Field>(number: u8) -> F
+    requires { IsNumber F.IsElement F.number F.element number }
+    ensures element { F.IsElement result }
+    ensures value { result ≡ F.element number }
+{
+    match F::from_number(number) {
+        Some(element) => element,
+        None => F::zero(),
+    }
 }

@@ -1,7 +1,7 @@
 //! The field of two elements.
 ghost use Rattle.std.specs.Prelude.{◌≡◌, ◌<◌, ◌==◌, bit_and, bit_xor};
 ghost use Rattle.sc_field.specs.Gf2.{gf2_act};
-ghost use Rattle.sc_field.specs.Laws.Gf2Laws.{gf2_field, gf2_numbered, gf2_action, gf2_exact};
+ghost use Rattle.sc_field.specs.Laws.Gf2Laws.{gf2_field, gf2_numbered, gf2_action, gf2_exact, gf2_by_number};
 
 use crate::field::Field;
 use std::marker::Model;
@@ -38,6 +38,8 @@ impl Field for Gf2 {
     ghost inv = { λ x. x };
 
     ghost number = { λ x. x };
+
+    ghost element = { λ n. n };
 
     ghost act = { gf2_act };
 
@@ -87,4 +89,6 @@ impl Field for Gf2 {
     ghost action = { gf2_action };
 
     ghost exact = { gf2_exact };
+
+    ghost by_number = { gf2_by_number };
 }

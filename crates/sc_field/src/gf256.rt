@@ -1,7 +1,7 @@
 //! The field of 256 elements, with bytes for elements.
 ghost use Rattle.std.specs.Prelude.{◌≡◌, ◌<◌, ◌==◌, bit_xor, length, slice_index};
 ghost use Rattle.sc_field.specs.Gf256.{gf256_product, gf256_inverse};
-ghost use Rattle.sc_field.specs.Laws.Gf256Laws.{gf256_field, gf256_numbered, gf256_action, gf256_exact};
+ghost use Rattle.sc_field.specs.Laws.Gf256Laws.{gf256_field, gf256_numbered, gf256_action, gf256_exact, gf256_by_number};
 
 use crate::field::Field;
 use std::marker::Model;
@@ -39,6 +39,8 @@ impl Field for Gf256 {
     ghost inv = { gf256_inverse };
 
     ghost number = { λ x. x };
+
+    ghost element = { λ n. n };
 
     ghost act = { gf256_product };
 
@@ -92,6 +94,8 @@ impl Field for Gf256 {
     ghost action = { gf256_action };
 
     ghost exact = { gf256_exact };
+
+    ghost by_number = { gf256_by_number };
 }
 
 impl From<u8> for Gf256 {

@@ -1,17 +1,21 @@
 //! Products of a field's element with many bytes at once.
-//!
-//! Long slices go by vectors of 16 bytes. A byte is the xor of its low half and its high half, so its product is
-//! the xor of two entries of tables with 16 entries each, as in the vector kernels of Reed-Solomon libraries.
-ghost use Rattle.std.specs.Prelude.{◌≡◌, ⊤, ◌+◌, ◌*◌, ◌<◌, ◌≤◌, ℕ, map, bit_xor, length, slice_index};
-ghost use Rattle.std.specs.Simd.Lanes.{chunk, put_chunk, zip2};
-ghost use Rattle.sc_field.specs.Scale.{scaled_sum, IsTableOf, IsByHalves};
+ghost use Rattle.std.specs.Prelude.{◌≡◌, ◌+◌, ◌<◌, ◌≤◌, map, length, if◌then◌else◌};
+ghost use Rattle.sc_field.specs.Scale.{scaled_sum};
 
 use crate::field::Field;
-use std::alloc::AllocError;
-use std::simd::prelude::*;
+use crate::lanes::{load, load_halves, load_short, piece_of, store, store_halves, store_short};
+use crate::multiplier::Multiplier;
+use crate::terms::{Term, write_sum};
 
-// The bytes of a vector.
-const LANES: usize = 16;
+/// Adds `src` to `dst`: each `dst[x]` becomes `dst[x]` xor `src[x]`.
+pub fn add_bytes(dst: &mut [u8], src: &[u8])
+    requires { length src.now ≡ length dst.old }
+    ensures { dst.new ≡ scaled_sum (λ b. b) dst.old src.now }
+{
+    for i in 0..dst.len() {
+        dst[i] ^= src[i];
+    }
+}
 
 /// Adds `c` times `src` to `dst`: each `dst[x]` becomes `dst[x]` xor `act(c, src[x])`.
 ///
@@ -20,11 +24,31 @@ pub fn scale_add<F: Field>(dst: &mut [u8], c: F, src: &[u8])
     requires { length src.now ≡ length dst.old }
     ensures { dst.new ≡ scaled_sum (F.act c) dst.old src.now }
 {
-    if dst.len() < 2 * LANES {
+    if add_unscaled(dst, c, src) {
+        return;
+    }
+    if dst.len() < 32 {
         add_by_bytes(dst, c, src);
     } else {
-        Multiplier::new(c).scale_add(dst, src);
+        Multiplier::new(c).add_scaled(dst, src);
     }
+}
+
+// Where `c` is zero or one there is nothing to look up. Of any other coefficient it says so, and leaves `dst` as it is.
+#[inline(always)]
+fn add_unscaled<F: Field>(dst: &mut [u8], c: F, src: &[u8]) -> bool
+    requires { length src.now ≡ length dst.old }
+    ensures { dst.new ≡ (if result then scaled_sum (F.act c) dst.old src.now else dst.old) }
+{
+    c.known();
+    if c == F::zero() {
+        return true;
+    }
+    if c == F::one() {
+        add_bytes(dst, src);
+        return true;
+    }
+    false
 }
 
 fn add_by_bytes<F: Field>(dst: &mut [u8], c: F, src: &[u8])
@@ -36,123 +60,82 @@ fn add_by_bytes<F: Field>(dst: &mut [u8], c: F, src: &[u8])
     }
 }
 
-/// A coefficient with the products that [`Multiplier::scale_add`] looks up, which are worked out once.
-#[derive(Copy)]
-pub struct Multiplier<F: Field> {
-    /// The coefficient that it multiplies by.
-    pub coefficient: F,
-    low: [u8; 16],
-    high: [u8; 16],
-    ghost products: { IsByHalves (F.act coefficient) low high },
-}
-
-impl<F: Field> Clone for Multiplier<F> {
-    ghost is_clone = { λ x y. y ≡ x };
-
-    ghost is_infallible = { λ _. ⊤ };
-
-    fn clone(&self) -> Result<Multiplier<F>, AllocError> {
-        Ok(*self)
-    }
-}
-
 impl<F: Field> Multiplier<F> {
-    /// The multiplier of this coefficient. It takes no memory.
-    pub fn new(coefficient: F) -> Self
-        ensures { result.coefficient ≡ coefficient }
-    {
-        coefficient.known();
-        let low = products(coefficient, 1);
-        let high = products(coefficient, 16);
-        Multiplier {
-            coefficient,
-            low,
-            high,
-        }
-    }
-
     /// Adds the coefficient times `src` to `dst`: each `dst[x]` becomes `dst[x]` xor
     /// `act(coefficient, src[x])`.
     pub fn scale_add(&self, dst: &mut [u8], src: &[u8])
         requires { length src.now ≡ length dst.old }
         ensures { dst.new ≡ scaled_sum (F.act self.now.coefficient) dst.old src.now }
     {
-        if dst.len() < LANES {
-            self.add_by_halves(dst, src);
-        } else {
-            self.add_by_vectors(dst, src);
+        if !add_unscaled(dst, self.coefficient, src) {
+            self.add_scaled(dst, src);
         }
     }
 
-    fn add_by_halves(&self, dst: &mut [u8], src: &[u8])
+    #[inline(always)]
+    fn add_scaled(&self, dst: &mut [u8], src: &[u8])
         requires { length src.now ≡ length dst.old }
         ensures { dst.new ≡ scaled_sum (F.act self.now.coefficient) dst.old src.now }
     {
-        for i in 0..dst.len() {
-            dst[i] ^= self.product(src[i]);
+        let term = Term {
+            multiplier: *self,
+            at: 0,
+        };
+        let rest = [];
+        write_sum(dst, &term, &rest, src, false);
+    }
+
+    /// Writes the coefficient times `src` to `dst`: each `dst[x]` becomes `act(coefficient, src[x])`.
+    pub fn set(&self, dst: &mut [u8], src: &[u8])
+        requires { length src.now ≡ length dst.old }
+        ensures { dst.new ≡ map (F.act self.now.coefficient) src.now }
+    {
+        let term = Term {
+            multiplier: *self,
+            at: 0,
+        };
+        let rest = [];
+        write_sum(dst, &term, &rest, src, true);
+    }
+
+    /// Multiplies all of `dst` by the coefficient, in place.
+    pub fn scale(&self, dst: &mut [u8])
+        ensures { dst.new ≡ map (F.act self.now.coefficient) dst.old }
+    {
+        if dst.len() >= 32 {
+            self.scale_long(dst);
+        } else if dst.len() >= 16 {
+            let product = self.times(load_halves(dst, 0, dst.len()));
+            store_halves(dst, product);
+        } else if dst.len() > 0 {
+            self.scale_short(dst);
         }
     }
 
-    #[inline(always)]
-    fn product(&self, byte: u8) -> u8
-        ensures { result ≡ F.act self.now.coefficient byte }
+    fn scale_short(&self, dst: &mut [u8])
+        requires { (1 ≤ length dst.old) × (length dst.old < 16) }
+        ensures { dst.new ≡ map (F.act self.now.coefficient) dst.old }
     {
-        self.low[(byte & 15) as usize] ^ self.high[(byte >> 4) as usize]
+        let n = dst.len();
+        let width = piece_of(n);
+        let product = self.times_short(load_short(dst, 0, n, width));
+        store_short(dst, product);
     }
 
-    // The last vector ends with the slices, and may lie over the one before. So it is worked out from the bytes as
-    // they were, and stored last.
-    fn add_by_vectors(&self, dst: &mut [u8], src: &[u8])
-        requires same { length src.now ≡ length dst.old }
-        requires long { LANES ≤ length dst.old }
-        ensures { dst.new ≡ scaled_sum (F.act self.now.coefficient) dst.old src.now }
+    // The last vector ends with the slice and may lie over the one before. So it is worked out from the bytes as they were.
+    fn scale_long(&self, dst: &mut [u8])
+        requires { 32 ≤ length dst.old }
+        ensures { dst.new ≡ map (F.act self.now.coefficient) dst.old }
     {
-        let end = dst.len() - LANES;
-        let last = self.sum(load(dst, end), load(src, end));
+        let tables = *self;
+        let end = dst.len() - 32;
+        let last = tables.times(load(dst, end));
         let mut at = 0;
         while at < end {
-            let next = self.sum(load(dst, at), load(src, at));
+            let next = tables.times(load(dst, at));
             store(dst, at, next);
-            at += LANES;
+            at += 32;
         }
         store(dst, end, last);
     }
-
-    // One vector of `dst` with the coefficient times one of `src` added.
-    #[inline(always)]
-    fn sum(&self, dst: u8x16, src: u8x16) -> u8x16
-        ensures { result ≡ zip2 bit_xor dst (map (F.act self.now.coefficient) src) }
-    {
-        let low = u8x16::from_array(self.low).swizzle_dyn(src & u8x16::splat(15));
-        let high = u8x16::from_array(self.high).swizzle_dyn(src >> u8x16::splat(4));
-        dst ^ (low ^ high)
-    }
-}
-
-// The products of `c` with 0, `step`, 2 * `step` and so on.
-fn products<F: Field>(c: F, step: u8) -> [u8; 16]
-    requires { step ≤ 16 }
-    ensures { IsTableOf (F.act c) step result }
-{
-    let mut table = [0; 16];
-    for k in 0..16 {
-        table[k as usize] = c.act(step * k);
-    }
-    table
-}
-
-#[inline(always)]
-fn load(s: &[u8], at: usize) -> u8x16
-    requires { at + 16 ≤ length s.now }
-    ensures { result ≡ chunk at 16 s.now }
-{
-    u8x16::from_slice(&s[at..])
-}
-
-#[inline(always)]
-fn store(s: &mut [u8], at: usize, v: u8x16)
-    requires { at + 16 ≤ length s.old }
-    ensures { s.new ≡ put_chunk at s.old v }
-{
-    v.copy_to_slice(&mut s[at..]);
 }

@@ -1,5 +1,5 @@
 -- The laws of the field of 256 elements.
-use Rattle.std.proofs.Common.{ℕ, ◌<◌, ◌==◌, bit_xor, refl, ◌∙◌, arith}
+use Rattle.std.proofs.Common.{◌≡◌, ℕ, ◌<◌, ◌==◌, bit_xor, refl, ◌∙◌, arith}
 use Rattle.std.specs.Int.Bits.{xor_assoc, xor_zero_r}
 use Rattle.std.proofs.lemmas.Bool.{eqb-true, eq-eqb}
 use Rattle.std.proofs.lemmas.Nat.{xor_comm, xor_lt}
@@ -34,8 +34,8 @@ gf256_field = record {
   mul_inv = product_inverse;
 }
 
-pub gf256_numbered : IsNumbered IsByte 0 1 (λ (n : ℕ). n)
-gf256_numbered = record { below = λ x hx. hx; injective = λ x y hx hy e. e; of_zero = refl; of_one = refl }
+pub gf256_numbered : IsNumbered IsByte 0 1 (λ (n : ℕ). n) (λ (n : ℕ). n)
+gf256_numbered = record { below = λ x hx. hx; injective = λ x y hx hy e. e; of_zero = refl; of_one = refl; element_number = λ x hx. refl }
 
 pub gf256_action : IsAction IsByte 0 1 bit_xor gf256_product gf256_product
 gf256_action = record {
@@ -49,3 +49,6 @@ gf256_action = record {
 
 pub gf256_exact : IsExact IsByte (λ a b. a == b)
 gf256_exact = record { exact = λ x y hx hy. (eqb-true x y, eq-eqb x y) }
+
+pub gf256_by_number : (x : ℕ) → IsByte x → gf256_product x 1 ≡ x
+gf256_by_number = product_one

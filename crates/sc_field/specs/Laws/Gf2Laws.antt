@@ -37,8 +37,8 @@ gf2_field = record {
   mul_inv = two_cases (λ x. x ≢ 0 → bit_and x x ≡ 1) (λ h. absurd (h refl)) (λ h. refl);
 }
 
-pub gf2_numbered : IsNumbered IsBit 0 1 (λ (n : ℕ). n)
-gf2_numbered = record { below = λ x hx. omega arith; injective = λ x y hx hy e. e; of_zero = refl; of_one = refl }
+pub gf2_numbered : IsNumbered IsBit 0 1 (λ (n : ℕ). n) (λ (n : ℕ). n)
+gf2_numbered = record { below = λ x hx. omega arith; injective = λ x y hx hy e. e; of_zero = refl; of_one = refl; element_number = λ x hx. refl }
 
 pub gf2_action : IsAction IsBit 0 1 bit_xor bit_and gf2_act
 gf2_action = record {
@@ -54,3 +54,6 @@ gf2_action = record {
 
 pub gf2_exact : IsExact IsBit (λ a b. a == b)
 gf2_exact = record { exact = λ x y hx hy. (eqb-true x y, eq-eqb x y) }
+
+pub gf2_by_number : (x : ℕ) → IsBit x → gf2_act x 1 ≡ x
+gf2_by_number = two_cases (λ x. gf2_act x 1 ≡ x) refl refl
