@@ -5,13 +5,11 @@
 //! is the only refusal.
 #![tactic(auto)]
 
-mod products;
-mod row_operations;
-mod shapes;
-mod store;
-mod vectors;
+mod bytes;
+mod matrix;
+mod rows;
 
-pub use store::{MAX_ENTRIES, Matrix};
+pub use matrix::{MAX_ENTRIES, Matrix};
 
 #[cfg(test)]
 mod tests;
