@@ -3,4 +3,5 @@ pub mod ScaledSum
 pub mod SumSteps
 pub mod Vectors
 pub mod Tables
-pub mod Wide
+pub mod Making
+pub mod Sums

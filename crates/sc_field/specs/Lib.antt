@@ -5,3 +5,4 @@ pub mod Gf2
 pub mod Gf256
 pub mod Laws
 pub mod Scale
+pub mod Terms

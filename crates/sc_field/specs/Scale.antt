@@ -15,7 +15,7 @@ IsTableOf f step table = (k : ℕ) → k < 16 → slice_index table k ≡ f (ste
 abbrev pub IsByHalves : (ℕ → ℕ) → List ℕ → List ℕ → Type 0
 IsByHalves f low high = (b : ℕ) → b < 256 → f b ≡ bit_xor (slice_index low (b % 16)) (slice_index high (b / 16))
 
--- the table of 16 entries twice, one after the other
-pub record IsRepeated (table wide : List ℕ) : Type 0 where
-  pub long : length wide ≡ 32
-  pub each : (k : ℕ) → k < 32 → slice_index wide k ≡ slice_index table (k % 16)
+-- the table of 16 entries, over and over up to so many entries
+pub record IsRepeated (lanes : ℕ) (table wide : List ℕ) : Type 0 where
+  pub long : length wide ≡ lanes
+  pub each : (k : ℕ) → k < lanes → slice_index wide k ≡ slice_index table (k % 16)
