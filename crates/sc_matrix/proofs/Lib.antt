@@ -2,6 +2,8 @@ pub mod VectorLaws
 pub mod ModuleLaws
 pub mod Modules
 pub mod MatrixLaws
+pub mod ProductLaws
+pub mod TransposeLaws
 pub mod LayoutLaws
 pub mod ByteSteps
 pub mod NumberLaws

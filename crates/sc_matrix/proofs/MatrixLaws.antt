@@ -1,14 +1,15 @@
 -- Matrices of entries of one kind, and maps of the entries of a matrix.
-use Rattle.std.proofs.Common.{◌≡◌, ℕ, zero as naught, suc, ◌<◌, List, [], ◌∷◌, length, get_or, set, swap, map, take, replicate, All, refl, sym, ◌∙◌, ap, ap₂, subst, inl, inr, arith}
+use Rattle.std.proofs.Common.{◌≡◌, ℕ, zero as naught, suc, ◌+◌, ◌<◌, List, [], ◌∷◌, length, get_or, set, swap, map, take, replicate, All, refl, sym, ◌∙◌, ap, ap₂, subst, inl, inr, arith}
 use Rattle.std.specs.List.{range_with_len}
 use Rattle.std.proofs.lemmas.Bool.{cases_lt}
 use Rattle.std.proofs.lemmas.List.{length-map, map-set, take-map, map_push, get_or_past, get_or_default}
 use Rattle.std.proofs.lemmas.List.Elements.{All-map, All-set, All-append, All-take, All-replicate}
 use Rattle.std.proofs.lemmas.List.Edits.{swap_is}
+use Rattle.std.proofs.lemmas.List.FromFn.{length-range_with_len, get_or-range_with_len}
 use Rattle.sc_matrix.specs.Vector.{IsVector}
 use Rattle.sc_matrix.specs.Matrix.{Matrix, IsMatrix, row_count, row, entry, column, with_row, with_entry, with_last_row, first_rows, zero_matrix, transpose, submatrix, swap_rows}
 use Rattle.sc_matrix.specs.Layout.{map_matrix}
-use Rattle.sc_matrix.proofs.VectorLaws.{IsVector-map, IsVector-set, IsVector-replicate}
+use Rattle.sc_matrix.proofs.VectorLaws.{IsVector-map, IsVector-set, IsVector-replicate, entry_at}
 
 -- ---- entries of one kind
 module _ {A : Type 0} {P : A → Type 0} where
@@ -52,18 +53,21 @@ module _ {A : Type 0} {P : A → Type 0} where
         | inr past ↦ subst P (sym (ap (λ (r : List A). get_or r j d) (get_or_past m.rows i [] past))) hd
       ]
 
-  pub elements-column : (zero : A) (m : Matrix A) (j : ℕ) → IsMatrix P m → P zero → IsVector P (row_count m) (column zero m j)
-  elements-column zero m j hm hz = record {
+  pub elements-column : (zero : A) (m : Matrix A) (j : ℕ) → IsMatrix P m → j < m.cols → IsVector P (row_count m) (column zero m j)
+  elements-column zero m j hm h = record {
     width = length-map m.rows (λ (r : List A). get_or r j zero);
-    entries =
-        All-map P (λ (r : List A). get_or r j zero) m.rows
-        (λ k d l. subst (λ (r : List A). P (get_or r j zero)) (get_or_default m.rows k [] d l) (entry_kind m k j zero hm hz));
+    entries = All-map P (λ (r : List A). get_or r j zero) m.rows (λ k d l. entry_at j zero (hm.vectors k d l) h);
   }
 
-  pub IsMatrix-transpose : (zero : A) (m : Matrix A) → IsMatrix P m → P zero → IsMatrix P (transpose zero m)
-  IsMatrix-transpose zero m hm hz = record {
-    vectors = All-map (IsVector P (row_count m)) (column zero m) (range_with_len 0 m.cols) (λ k d h. elements-column zero m _ hm hz);
-  }
+  pub IsMatrix-transpose : (zero : A) (m : Matrix A) → IsMatrix P m → IsMatrix P (transpose zero m)
+  IsMatrix-transpose zero m hm =
+      let n = length-range_with_len 0 m.cols in
+      record {
+        vectors =
+            All-map (IsVector P (row_count m)) (column zero m) (range_with_len 0 m.cols)
+            (λ k d h. let e : get_or (range_with_len 0 m.cols) k d ≡ 0 + k = get_or-range_with_len 0 m.cols k d (omega arith) in
+            elements-column zero m (get_or (range_with_len 0 m.cols) k d) hm (omega arith));
+      }
 
   pub IsMatrix-submatrix : (zero : A) (m : Matrix A) (is js : List ℕ) → IsMatrix P m → P zero → IsMatrix P (submatrix zero m is js)
   IsMatrix-submatrix zero m is js hm hz = record {

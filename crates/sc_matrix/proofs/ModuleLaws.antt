@@ -6,7 +6,7 @@ use Rattle.std.proofs.lemmas.List.{take_more, length-take-le}
 use Rattle.sc_field.specs.Field.{IsField}
 use Rattle.sc_field.specs.FieldLemmas.{mul_zero, inv_mul}
 use Rattle.sc_matrix.specs.Module.{IsModule, IsLinear}
-use Rattle.sc_matrix.specs.Vector.{IsVector, add_vectors, scale_vector, dot}
+use Rattle.sc_matrix.specs.Vector.{IsVector, add_vectors, scale_vector, dot, unit_vector}
 use Rattle.sc_matrix.proofs.VectorLaws.{head, tail, entry_at, dot_nil_right, IsVector-replicate, IsVector-take}
 
 module _ {C A : Type 0} {IsElement : C → Type 0} {zero one : C} {add sub mul : C → C → C} {inv : C → C} {IsValue : A → Type 0} {none : A} {plus : A → A → A} {times : C → A → A} (laws : IsField IsElement zero one add sub mul inv) (ml : IsModule IsElement zero one add mul IsValue none plus times) where
@@ -152,6 +152,15 @@ module _ {C A : Type 0} {IsElement : C → Type 0} {zero one : C} {add sub mul :
       ap₂ (dot none plus times) (take_more cs n zero (omega arith)) (take_more vs n none (omega arith))
       ∙ dot-append (take n cs) (c ∷ []) (take n vs) (v ∷ []) (pc.width ∙ sym pv.width) pc (IsVector-replicate 1 c h1) pv (IsVector-replicate 1 v h2)
       ∙ ap (plus (dot none plus times (take n cs) (take n vs))) (ml.plus_none (times c v) (ml.times_value c v h1 h2))
+
+  -- with a unit vector it is the value at its place
+  pub dot_unit : (n i : ℕ) (vs : List A) → IsVector IsValue n vs → i < n → dot none plus times (unit_vector zero one n i) vs ≡ get_or vs i none
+  dot_unit naught i vs hv h = absurd (omega arith)
+  dot_unit (suc n) i [] hv h = let w = hv.width in absurd (omega arith)
+  dot_unit (suc n) naught (v ∷ vs) hv h = ap₂ plus (ml.times_one v (head hv)) (dot_zero_left n vs (tail hv)) ∙ ml.plus_none v (head hv)
+  dot_unit (suc n) (suc i) (v ∷ vs) hv h =
+      let t : IsVector IsValue n vs = record { width = (let w = hv.width in omega arith); entries = (tail hv).entries } in
+      ap₂ plus (ml.times_zero v (head hv)) (dot_unit n i vs t (omega arith)) ∙ none_plus (get_or vs i none) (entry_at i none t (omega arith))
 
 -- the dot product with a vector of elements on the right
 module _ {A : Type 0} {IsElement : A → Type 0} {zero one : A} {add sub mul : A → A → A} {inv : A → A} (laws : IsField IsElement zero one add sub mul inv) where

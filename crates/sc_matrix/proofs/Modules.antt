@@ -83,14 +83,6 @@ module _ {C A : Type 0} {IsElement : C → Type 0} {zero one : C} {add mul : C �
         map_same (times (mul x y)) (λ (a : A). times x (times y a)) v (λ a ha. ml.times_mul x y a hx hy ha) hv ∙ sym (map-map (times x) (times y) v);
   }
 
-  -- to take the entry at a place is linear
-  pub entry_linear : (n j : ℕ) → j < n → IsLinear IsElement (IsVector IsValue n) (replicate n none) (add_vectors plus) (scale_vector times) none plus times (λ (v : List A). get_or v j none)
-  entry_linear n j lt = record {
-    of_none = get_or-replicate n j none none lt;
-    of_plus = λ u v hu hv. let a = hu.width in let b = hv.width in get_or-add_vectors plus u v j none (omega arith) (omega arith);
-    of_times = λ x v hx hv. let a = hv.width in get_or-scale_vector times x v j none (omega arith);
-  }
-
 -- to take the dot product with a vector of values is linear
 module _ {C A : Type 0} {IsElement : C → Type 0} {zero one : C} {add sub mul : C → C → C} {inv : C → C} {IsValue : A → Type 0} {none : A} {plus : A → A → A} {times : C → A → A} (laws : IsField IsElement zero one add sub mul inv) (ml : IsModule IsElement zero one add mul IsValue none plus times) where
   pub dot_linear : {q : ℕ} (n : ℕ) (vs : List A) → IsVector IsValue q vs → IsLinear IsElement (IsVector IsElement n) (replicate n zero) (add_vectors add) (scale_vector mul) none plus times (λ (r : List C). dot none plus times r vs)
@@ -104,10 +96,6 @@ module _ {C A : Type 0} {IsElement : C → Type 0} {zero one : C} {add sub mul :
   pub dot-combination : {p m q : ℕ} (n : ℕ) (cs : List C) (rows : List (List C)) (vs : List A) → IsVector IsElement p cs → IsVector (IsVector IsElement n) m rows → IsVector IsValue q vs
       → dot none plus times (combination zero add mul n cs rows) vs ≡ dot none plus times cs (map (λ (r : List C). dot none plus times r vs) rows)
   dot-combination n cs rows vs hc hr hv = linear-dot laws (vector_module (field_module laws) n) (dot_linear n vs hv) cs rows hc hr
-
-  pub get_or-combination : {p q : ℕ} (n : ℕ) (cs : List C) (vs : List (List A)) (j : ℕ) → IsVector IsElement p cs → IsVector (IsVector IsValue n) q vs → j < n
-      → get_or (combination none plus times n cs vs) j none ≡ dot none plus times cs (map (λ (v : List A). get_or v j none) vs)
-  get_or-combination n cs vs j hc hv lt = linear-dot laws (vector_module ml n) (entry_linear ml n j lt) cs vs hc hv
 
   pub IsVector-combination : {p q : ℕ} (n : ℕ) (cs : List C) (vs : List (List A)) → IsVector IsElement p cs → IsVector (IsVector IsValue n) q vs → IsVector IsValue n (combination none plus times n cs vs)
   IsVector-combination n cs vs hc hv = value-dot laws (vector_module ml n) cs vs hc hv

@@ -1,6 +1,6 @@
 -- Vectors under any operations: their lengths, their entries, and maps of them.
 use Rattle.std.proofs.Common.{◌≡◌, ℕ, zero as none, suc, ◌+◌, ◌-◌, ◌<◌, ◌≤◌, List, [], ◌∷◌, ◌++◌, length, get_or, set, map, take, drop, replicate, All, refl, sym, ◌∙◌, ap, ap₂, arith}
-use Rattle.std.proofs.lemmas.List.{length-map, length-replicate, length-append, length-take-le, length-drop, length-set, get_or-map}
+use Rattle.std.proofs.lemmas.List.{length-map, length-replicate, length-append, length-take-le, length-drop, length-set, get_or-map, get_or-replicate}
 use Rattle.std.proofs.lemmas.List.Elements.{All-nil, All-head, All-tail, All-cons, All-map, All-replicate, All-append, All-take, All-drop, All-set, All-weaker}
 use Rattle.sc_matrix.specs.Vector.{IsVector, add_vectors, scale_vector, dot, combination}
 
@@ -114,3 +114,14 @@ module _ {A : Type 0} where
       let s : length (scale_vector mul c v) ≡ length v = length-scale_vector mul c v in
       let w : length v ≡ n = (head h).width in
       length-add_vectors add (scale_vector mul c v) (combination zero add mul n cs vs) (s ∙ w ∙ sym t) ∙ s ∙ w
+
+  pub get_or-combination : {C : Type 0} {P : A → Type 0} (zero : A) (add : A → A → A) (mul : C → A → A) (n : ℕ) (cs : List C) (vs : List (List A)) (j : ℕ) {q : ℕ} → IsVector (IsVector P n) q vs → j < n
+      → get_or (combination zero add mul n cs vs) j zero ≡ dot zero add mul cs (map (λ (v : List A). get_or v j zero) vs)
+  get_or-combination zero add mul n [] vs j h lt = get_or-replicate n j zero zero lt
+  get_or-combination zero add mul n (c ∷ cs) [] j h lt = get_or-replicate n j zero zero lt
+  get_or-combination zero add mul n (c ∷ cs) (v ∷ vs) j h lt =
+      let t : length (combination zero add mul n cs vs) ≡ n = length-combination zero add mul n cs vs (tail h) in
+      let s = length-scale_vector mul c v in
+      let w = (head h).width in
+      get_or-add_vectors add (scale_vector mul c v) (combination zero add mul n cs vs) j zero (omega arith) (omega arith)
+      ∙ ap₂ add (get_or-scale_vector mul c v j zero (omega arith)) (get_or-combination zero add mul n cs vs j (tail h) lt)

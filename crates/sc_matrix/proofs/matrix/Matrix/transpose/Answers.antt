@@ -2,12 +2,12 @@ use Rattle.std.proofs.Common.{ap, ◌∙◌}
 use Rattle.sc_matrix.specs.Matrix.{transpose}
 use Rattle.sc_matrix.specs.Layout.{map_matrix}
 use Rattle.sc_matrix.specs.Rows.{table}
-use Rattle.sc_matrix.proofs.NumberLaws.{zero_number, element_zero}
+use Rattle.sc_matrix.proofs.NumberLaws.{element_zero}
 use Rattle.sc_matrix.proofs.MatrixLaws.{IsMatrix-transpose, map-transpose}
 use Rattle.sc_matrix.proofs.matrix.Matrix.transpose.Goals as goal
 
 pub invariant_of-result : goal.invariant_of-result
-invariant_of-result g c = rw c.in_ok-numbers.ensures (IsMatrix-transpose 0 (table c.self.inside.numbers) c.self.invariant (zero_number g.met.F.Field.field g.met.F.Field.action g.met.F.Field.numbered g.met.F.Field.by_number))
+invariant_of-result g c = rw c.in_ok-numbers.ensures (IsMatrix-transpose 0 (table c.self.inside.numbers) c.self.invariant)
 
 pub returns : goal.returns
 returns g c =

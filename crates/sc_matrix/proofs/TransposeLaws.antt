@@ -1,0 +1,79 @@
+-- Laws of the transpose, by the entries of matrices.
+use Rattle.std.proofs.Common.{◌≡◌, ℕ, ◌+◌, ◌<◌, List, [], length, get_or, All, sym, ◌∙◌, ap, ap₂, arith}
+use Rattle.std.proofs.lemmas.List.{length-map, get_or-map, ext_get_or}
+use Rattle.std.proofs.lemmas.List.FromFn.{length-map-range_with_len, get_or-map-range_with_len}
+use Rattle.sc_field.specs.Field.{IsField}
+use Rattle.sc_matrix.specs.Vector.{dot}
+use Rattle.sc_matrix.specs.Matrix.{Matrix, IsMatrix, row, row_count, entry, column, apply, transpose, product}
+use Rattle.sc_matrix.proofs.MatrixLaws.{elements-column, IsMatrix-transpose}
+use Rattle.sc_matrix.proofs.ModuleLaws.{dot_comm}
+use Rattle.sc_matrix.proofs.Modules.{field_module}
+use Rattle.sc_matrix.proofs.ProductLaws.{same_matrix, IsMatrix-product, entry-product}
+
+module _ {A : Type 0} where
+  -- two matrices of one size with the same entries are equal
+  pub same_entries : (P : A → Type 0) (zero : A) (a b : Matrix A) → IsMatrix P a → IsMatrix P b → a.cols ≡ b.cols → row_count a ≡ row_count b → ((i j : ℕ) → i < row_count a → j < a.cols → entry zero a i j ≡ entry zero b i j) → a ≡ b
+  same_entries P zero a b ha hb e f same =
+      same_matrix a b e
+      (ext_get_or [] a.rows b.rows f
+      (λ i h.
+      let wa : length (row a i) ≡ a.cols = (ha.vectors i [] h).width in
+      let wb : length (row b i) ≡ b.cols = (hb.vectors i [] (omega arith)).width in
+      ext_get_or zero (row a i) (row b i) (wa ∙ e ∙ sym wb) (λ j k. same i j h (omega arith))))
+
+  pub row_count-transpose : (zero : A) (m : Matrix A) → row_count (transpose zero m) ≡ m.cols
+  row_count-transpose zero m = length-map-range_with_len (column zero m) 0 m.cols
+
+  -- row j of the transpose is column j
+  pub row-transpose : (zero : A) (m : Matrix A) (j : ℕ) → j < m.cols → row (transpose zero m) j ≡ column zero m j
+  row-transpose zero m j h = get_or-map-range_with_len (column zero m) 0 m.cols j j [] h (omega arith)
+
+  pub entry-transpose : (zero : A) (m : Matrix A) (i j : ℕ) → i < row_count m → j < m.cols → entry zero (transpose zero m) j i ≡ entry zero m i j
+  entry-transpose zero m i j h k =
+      ap (λ (r : List A). get_or r i zero) (row-transpose zero m j k) ∙ get_or-map (λ (r : List A). get_or r j zero) m.rows i [] zero h
+
+  pub transpose-transpose : (P : A → Type 0) (zero : A) (m : Matrix A) → IsMatrix P m → transpose zero (transpose zero m) ≡ m
+  transpose-transpose P zero m hm =
+      let n = row_count-transpose zero m in
+      let ht = IsMatrix-transpose zero m hm in
+      let n' = row_count-transpose zero (transpose zero m) in
+      same_entries P zero (transpose zero (transpose zero m)) m (IsMatrix-transpose zero (transpose zero m) ht) hm n n'
+      (λ i j h k.
+      entry-transpose zero (transpose zero m) j i (omega arith) (omega arith)
+      ∙ entry-transpose zero m i j (omega arith) (omega arith))
+
+  -- column i of the transpose is row i
+  pub column-transpose : (P : A → Type 0) (zero : A) (m : Matrix A) (i : ℕ) → IsMatrix P m → i < row_count m → column zero (transpose zero m) i ≡ row m i
+  column-transpose P zero m i hm h =
+      let n = row_count-transpose zero m in
+      let l = length-map (transpose zero m).rows (λ (r : List A). get_or r i zero) in
+      let w : length (row m i) ≡ m.cols = (hm.vectors i [] h).width in
+      ext_get_or zero (column zero (transpose zero m) i) (row m i) (l ∙ n ∙ sym w)
+      (λ j k.
+      get_or-map (λ (r : List A). get_or r i zero) (transpose zero m).rows j [] zero (omega arith)
+      ∙ entry-transpose zero m i j h (omega arith))
+
+module _ {A : Type 0} {IsElement : A → Type 0} {zero one : A} {add sub mul : A → A → A} {inv : A → A} (laws : IsField IsElement zero one add sub mul inv) where
+  -- The transpose of a product is the product of the transposes in the other order.
+  pub transpose-product : (a b : Matrix A) → IsMatrix IsElement a → IsMatrix IsElement b → a.cols ≡ row_count b → transpose zero (product zero add mul a b) ≡ product zero add mul (transpose zero b) (transpose zero a)
+  transpose-product a b ha hb e =
+      let ta = IsMatrix-transpose zero a ha in
+      let tb = IsMatrix-transpose zero b hb in
+      let p = IsMatrix-product laws (field_module laws) a b ha hb in
+      let na = row_count-transpose zero a in
+      let nb = row_count-transpose zero b in
+      let np = row_count-transpose zero (product zero add mul a b) in
+      let rows : row_count (product zero add mul a b) ≡ row_count a = length-map a.rows _ in
+      let rows' : row_count (product zero add mul (transpose zero b) (transpose zero a)) ≡ row_count (transpose zero b) = length-map (transpose zero b).rows _ in
+      same_entries IsElement zero (transpose zero (product zero add mul a b)) (product zero add mul (transpose zero b) (transpose zero a))
+      (IsMatrix-transpose zero (product zero add mul a b) p) (IsMatrix-product laws (field_module laws) (transpose zero b) (transpose zero a) tb ta) rows (np ∙ sym (rows' ∙ nb))
+      (λ j i h k.
+      let hi : i < row_count a = omega arith in
+      let hj : j < b.cols = omega arith in
+      let i_in : i < row_count (product zero add mul a b) = omega arith in
+      let j_in : j < row_count (transpose zero b) = omega arith in
+      entry-transpose zero (product zero add mul a b) i j i_in hj
+      ∙ entry-product zero add mul a b i j hb hi hj
+      ∙ dot_comm laws (row a i) (column zero b j) (ha.vectors i [] hi) (elements-column zero b j hb hj)
+      ∙ ap₂ (dot zero add mul) (sym (row-transpose zero b j hj)) (sym (column-transpose IsElement zero a i ha hi))
+      ∙ sym (entry-product zero add mul (transpose zero b) (transpose zero a) j i ta j_in hi))
