@@ -16,9 +16,9 @@ pub const MAX_ENTRIES: usize = 67_108_864;
 /// A matrix of `rows` rows and `cols` columns over the field `F`.
 ///
 /// It keeps the numbers of its entries, one byte each, row after row.
-#[derive(Drop)]
+#[derive(Debug, Drop)]
 pub struct Matrix<F: Field> {
-    numbers: Rows,
+    pub(crate) numbers: Rows,
     field: PhantomData<F>,
 }
 

@@ -8,7 +8,7 @@ use sc_outside::NoMemory;
 use std::alloc::Global;
 
 // `count` rows of `width` bytes each.
-#[derive(Drop)]
+#[derive(Debug, Drop)]
 pub(crate) struct Rows {
     pub(crate) count: usize,
     pub(crate) width: usize,
