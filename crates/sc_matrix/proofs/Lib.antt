@@ -4,6 +4,8 @@ pub mod Modules
 pub mod MatrixLaws
 pub mod ProductLaws
 pub mod TransposeLaws
+pub mod RowSpaceLaws
+pub mod LawRecords
 pub mod LayoutLaws
 pub mod ByteSteps
 pub mod NumberLaws

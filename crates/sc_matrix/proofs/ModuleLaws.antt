@@ -56,6 +56,16 @@ module _ {C A : Type 0} {IsElement : C → Type 0} {zero one : C} {add sub mul :
   pub times_cancel : (x : C) (u v : A) → IsElement x → IsValue u → IsValue v → x ≢ zero → times x u ≡ times x v → u ≡ v
   times_cancel x u v hx hu hv h e = sym (inv_times x u hx hu h) ∙ ap (times (inv x)) e ∙ inv_times x v hx hv h
 
+  -- what a multiple of w adds, its negative takes back
+  pub plus_times_back : (x : C) (u w : A) → IsElement x → IsValue u → IsValue w → plus (plus u (times x w)) (times (sub zero x) w) ≡ u
+  plus_times_back x u w hx hu hw =
+      let hn = laws.sub_element zero x laws.zero_element hx in
+      ml.plus_assoc u (times x w) (times (sub zero x) w) hu (ml.times_value x w hx hw) (ml.times_value (sub zero x) w hn hw)
+      ∙ ap (plus u)
+      (sym (ml.times_add x (sub zero x) w hx hn hw) ∙ ap (λ (y : C). times y w) (laws.add_comm x (sub zero x) hx hn ∙ laws.sub_add zero x laws.zero_element hx)
+      ∙ ml.times_zero w hw)
+      ∙ ml.plus_none u hu
+
   pub times_comm : (x y : C) (v : A) → IsElement x → IsElement y → IsValue v → times x (times y v) ≡ times y (times x v)
   times_comm x y v hx hy hv =
       sym (ml.times_mul x y v hx hy hv) ∙ ap (λ (z : C). times z v) (laws.mul_comm x y hx hy) ∙ ml.times_mul y x v hy hx hv

@@ -1,5 +1,5 @@
 -- Modules over a field and linear maps between them, in the standard terms of linear algebra.
-use Rattle.std.specs.Prelude.{◌≡◌}
+use Rattle.std.specs.Prelude.{◌≡◌, ℕ, ◌<◌}
 
 -- A module over a field: values that are added, and multiplied by the field's elements. The field itself is one, and so
 -- are the bytes with xor, and the vectors of n values of a module.
@@ -21,3 +21,7 @@ pub record IsLinear {C A B : Type 0} (IsElement : C → Type 0) (IsValue : A →
   pub of_none : f none ≡ none'
   pub of_plus : (u v : A) → IsValue u → IsValue v → f (plus u v) ≡ plus' (f u) (f v)
   pub of_times : (x : C) (v : A) → IsElement x → IsValue v → f (times x v) ≡ times' x (f v)
+
+-- a byte
+abbrev pub IsByte : ℕ → Type 0
+IsByte b = b < 256

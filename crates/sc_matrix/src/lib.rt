@@ -6,9 +6,14 @@
 #![tactic(auto)]
 
 mod bytes;
+mod laws;
 mod matrix;
 mod rows;
 
+pub use laws::{
+    dot_products_are_linear, kernels_are_subspaces, products_are_linear,
+    row_operations_keep_the_row_space, transposes_turn_products,
+};
 pub use matrix::{MAX_ENTRIES, Matrix};
 
 #[cfg(test)]

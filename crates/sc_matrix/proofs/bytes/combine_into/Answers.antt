@@ -5,7 +5,8 @@ use Rattle.sc_matrix.specs.Vector.{IsVector, add_vectors, scale_vector, combinat
 use Rattle.sc_matrix.specs.Rows.{table}
 use Rattle.sc_matrix.proofs.VectorLaws.{IsVector-map, vector_of}
 use Rattle.sc_matrix.proofs.LayoutLaws.{length-cut, vectors-cut}
-use Rattle.sc_matrix.proofs.Modules.{IsByte, vectors_none-bytes, combination_more}
+use Rattle.sc_matrix.specs.Module.{IsByte}
+use Rattle.sc_matrix.proofs.Modules.{vectors_none-bytes, combination_more}
 use Rattle.sc_matrix.proofs.ByteSteps.{scaled_sum_is}
 use Rattle.sc_matrix.proofs.bytes.combine_into.Goals as goal
 
