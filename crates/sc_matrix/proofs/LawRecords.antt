@@ -10,7 +10,7 @@ use Rattle.sc_matrix.proofs.TransposeLaws.{entry-transpose, transpose-transpose,
 use Rattle.sc_matrix.proofs.RowSpaceLaws.{kernel_subspace, row_space-kernel, kernel-one_row_space, row_space_subspace, row-in_row_space, row_space-rows_in, row_space-swap_rows, row_space-scale_row, row_space-add_row, swap_rows-swap_rows, scale_row-inverse, add_row-negative}
 
 module _ {C A : Type 0} {IsElement : C → Type 0} {zero one : C} {add sub mul : C → C → C} {inv : C → C} {IsValue : A → Type 0} {none : A} {plus : A → A → A} {times : C → A → A} (laws : IsField IsElement zero one add sub mul inv) (ml : IsModule IsElement zero one add mul IsValue none plus times) where
-  pub dot_laws : AreDotLaws IsElement zero one add sub mul IsValue none plus times
+  pub dot_laws : AreDotLaws IsElement zero one add mul IsValue none plus times
   dot_laws = record {
     value = λ p q cs vs hc hv. value-dot laws ml cs vs hc hv;
     add_left = λ p q cs ds vs hc hd hv. dot-add_left laws ml cs ds vs hc hd hv;
@@ -22,7 +22,7 @@ module _ {C A : Type 0} {IsElement : C → Type 0} {zero one : C} {add sub mul :
     of_combination = λ p m n q cs rows vs hc hr hv. dot-combination laws ml n cs rows vs hc hr hv;
   }
 
-  pub product_laws : AreProductLaws IsElement zero one add sub mul IsValue none plus times
+  pub product_laws : AreProductLaws IsElement zero one add mul IsValue none plus times
   product_laws = record {
     with_vector = λ q a b v ha hb hv. apply-product laws ml a b v ha hb hv;
     associative = product_assoc laws ml;
@@ -35,7 +35,7 @@ module _ {C A : Type 0} {IsElement : C → Type 0} {zero one : C} {add sub mul :
     entries = λ a b i j hb h k. entry-product none plus times a b i j hb h k;
   }
 
-  pub kernel_laws : AreKernelLaws IsElement zero one add sub mul IsValue none plus times
+  pub kernel_laws : AreKernelLaws IsElement zero one add mul IsValue none plus times
   kernel_laws = record { subspace = kernel_subspace laws ml; orthogonal = row_space-kernel laws ml; one_row_space = kernel-one_row_space laws ml }
 
 module _ {A : Type 0} {IsElement : A → Type 0} {zero one : A} {add sub mul : A → A → A} {inv : A → A} (laws : IsField IsElement zero one add sub mul inv) where

@@ -5,7 +5,7 @@ use Rattle.sc_matrix.specs.Vector.{IsVector, add_vectors, scale_vector, dot, com
 use Rattle.sc_matrix.specs.Matrix.{Matrix, IsMatrix, IsInKernel, row_count, row, entry, column, apply, product, matrix_sum, identity, transpose, swap_rows, scale_row, add_row}
 use Rattle.sc_matrix.specs.RowSpace.{IsSubspace, IsInRowSpace, RowsAreIn, HaveOneRowSpace}
 
-module _ {C A : Type 0} (IsElement : C → Type 0) (zero one : C) (add sub mul : C → C → C) (IsValue : A → Type 0) (none : A) (plus : A → A → A) (times : C → A → A) where
+module _ {C A : Type 0} (IsElement : C → Type 0) (zero one : C) (add mul : C → C → C) (IsValue : A → Type 0) (none : A) (plus : A → A → A) (times : C → A → A) where
   -- The dot product of scalars and values is linear on both sides. So are linear combinations, which are dot products of
   -- coefficients and vectors.
   pub record AreDotLaws : Type 0 where

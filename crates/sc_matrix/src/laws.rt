@@ -9,22 +9,22 @@ use sc_field::Field;
 
 /// Dot products and linear combinations are linear on both sides.
 pub fn dot_products_are_linear<F: Field>()
-    ensures elements { AreDotLaws F.IsElement F.zero F.one F.add F.sub F.mul F.IsElement F.zero F.add F.mul }
-    ensures bytes { AreDotLaws F.IsElement F.zero F.one F.add F.sub F.mul IsByte 0 bit_xor F.act }
+    ensures elements { AreDotLaws F.IsElement F.zero F.one F.add F.mul F.IsElement F.zero F.add F.mul }
+    ensures bytes { AreDotLaws F.IsElement F.zero F.one F.add F.mul IsByte 0 bit_xor F.act }
 {
 }
 
 /// Products of matrices are associative and linear, and the identity matrix changes nothing.
 pub fn products_are_linear<F: Field>()
-    ensures elements { AreProductLaws F.IsElement F.zero F.one F.add F.sub F.mul F.IsElement F.zero F.add F.mul }
-    ensures bytes { AreProductLaws F.IsElement F.zero F.one F.add F.sub F.mul IsByte 0 bit_xor F.act }
+    ensures elements { AreProductLaws F.IsElement F.zero F.one F.add F.mul F.IsElement F.zero F.add F.mul }
+    ensures bytes { AreProductLaws F.IsElement F.zero F.one F.add F.mul IsByte 0 bit_xor F.act }
 {
 }
 
 /// The kernel is a subspace, and matrices of one row space have one kernel.
 pub fn kernels_are_subspaces<F: Field>()
-    ensures elements { AreKernelLaws F.IsElement F.zero F.one F.add F.sub F.mul F.IsElement F.zero F.add F.mul }
-    ensures bytes { AreKernelLaws F.IsElement F.zero F.one F.add F.sub F.mul IsByte 0 bit_xor F.act }
+    ensures elements { AreKernelLaws F.IsElement F.zero F.one F.add F.mul F.IsElement F.zero F.add F.mul }
+    ensures bytes { AreKernelLaws F.IsElement F.zero F.one F.add F.mul IsByte 0 bit_xor F.act }
 {
 }
 
