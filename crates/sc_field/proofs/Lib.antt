@@ -5,3 +5,4 @@ pub mod Vectors
 pub mod Tables
 pub mod Making
 pub mod Sums
+pub mod CombinedLaws

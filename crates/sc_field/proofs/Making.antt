@@ -5,13 +5,29 @@ use Rattle.std.specs.Simd.Lanes.{chunk, put_chunk}
 use Rattle.std.proofs.Math.Nat.{mod-eq_of_lt}
 use Rattle.std.proofs.lemmas.Bool.{cases_lt, cond_below, cond_above}
 use Rattle.std.proofs.lemmas.Grind.{same_number_lists}
-use Rattle.std.proofs.lemmas.List.{get_or_append_left, get_or-append-add, get_or_past}
+use Rattle.std.proofs.lemmas.List.{get_or-map, length-map, get_or_append_left, get_or-append-add, get_or_past}
 use Rattle.std.proofs.lemmas.List.FromFn.{get_or-map-range_with_len, length-map-range_with_len}
 use Rattle.std.proofs.lemmas.Simd.{length-chunk, get_or-chunk, get_or-replicate, length-replicate, get_or-put_chunk_below, get_or-put_chunk_at, get_or-put_chunk_above, length-put_chunk}
 use Rattle.sc_field.specs.Terms.{Lanes, two_ends, piece, sum_from}
 
 pub same_lanes : (v : List ℕ) (lanes m : ℕ) (f g : ℕ → ℕ) → ((j : ℕ) → j < m → f j ≡ g j) → Lanes v lanes m f → Lanes v lanes m g
 same_lanes v lanes m f g same is = record { long = is.long; each = λ j lt. is.each j lt ∙ same j lt }
+
+-- the image under f of bytes that are as those at the places p j were
+pub scaled_lanes : (f : ℕ → ℕ) (old now v r : List ℕ) (lanes m : ℕ) (p q : ℕ → ℕ) → m ≤ lanes → ((j : ℕ) → get_or now (q j) 0 ≡ get_or old (p j) 0)
+    → Lanes v lanes m (λ j. get_or now (q j) 0) → r ≡ map f v → Lanes r lanes m (λ j. f (get_or old (p j) 0))
+scaled_lanes f old now v r lanes m p q le same is e =
+    let long = is.long in
+    record {
+      long = ap length e ∙ length-map v f ∙ is.long;
+      each = λ j lt. ap (λ (xs : List ℕ). get_or xs j 0) e ∙ get_or-map f v j 0 0 (omega arith) ∙ ap f (is.each j lt ∙ same j);
+    }
+
+pub length-mapped : (f : ℕ → ℕ) (xs : List ℕ) → length (map f xs) ≡ length xs
+length-mapped f xs = length-map xs f
+
+pub get_or-mapped : (f : ℕ → ℕ) (xs : List ℕ) (k : ℕ) → k < length xs → get_or (map f xs) k 0 ≡ f (get_or xs k 0)
+get_or-mapped f xs k lt = get_or-map f xs k 0 0 lt
 
 -- ---- loads
 

@@ -1,5 +1,5 @@
 -- The sum of a slice and the image of another: its length, its places, and that the order of two sums is free.
-use Rattle.std.proofs.Common.{◌≡◌, ℕ, zero, suc, ◌<◌, List, [], ◌∷◌, length, get_or, bit_xor, refl, sym, ap, ap₂, ◌∙◌, arith}
+use Rattle.std.proofs.Common.{◌≡◌, ℕ, zero, suc, ◌<◌, List, [], ◌∷◌, map, length, get_or, replicate, bit_xor, refl, sym, ap, ap₂, ◌∙◌, arith}
 use Rattle.std.specs.Int.Bits.{xor_assoc, xor_zero_r}
 use Rattle.std.proofs.lemmas.Nat.{xor_comm}
 use Rattle.sc_field.specs.Scale.{scaled_sum}
@@ -37,3 +37,18 @@ scaled_sum-twice f g h both [] src = refl
 scaled_sum-twice f g h both (d ∷ dst) [] = refl
 scaled_sum-twice f g h both (d ∷ dst) (s ∷ src) =
     ap₂ (λ (n : ℕ) (xs : List ℕ). n ∷ xs) (xor_assoc d (f s) (g s) ∙ ap (bit_xor d) (sym (both s))) (scaled_sum-twice f g h both dst src)
+
+-- over zeros the sum is the image alone
+pub scaled_sum-zeros : (f : ℕ → ℕ) (src : List ℕ) → scaled_sum f (replicate (length src) 0) src ≡ map f src
+scaled_sum-zeros f [] = refl
+scaled_sum-zeros f (s ∷ src) = ap₂ (λ (n : ℕ) (xs : List ℕ). n ∷ xs) (xor_comm 0 (f s) ∙ xor_zero_r (f s)) (scaled_sum-zeros f src)
+
+-- only what f is at the bytes of src matters
+pub scaled_sum-same : (f g : ℕ → ℕ) (dst src : List ℕ) → ((k : ℕ) → f (get_or src k 0) ≡ g (get_or src k 0)) → scaled_sum f dst src ≡ scaled_sum g dst src
+scaled_sum-same f g [] src same = refl
+scaled_sum-same f g (d ∷ dst) [] same = refl
+scaled_sum-same f g (d ∷ dst) (s ∷ src) same =
+    ap₂ (λ (n : ℕ) (xs : List ℕ). n ∷ xs) (ap (bit_xor d) (same 0)) (scaled_sum-same f g dst src (λ k. same (suc k)))
+
+pub scaled_sum-none : (f : ℕ → ℕ) (dst src : List ℕ) → ((k : ℕ) → f (get_or src k 0) ≡ 0) → scaled_sum f dst src ≡ dst
+scaled_sum-none f dst src none = scaled_sum-same f (λ b. 0) dst src none ∙ scaled_sum-zero (λ b. 0) (λ b. refl) dst src

@@ -1,5 +1,5 @@
 -- Terms added one after the other, place by place.
-use Rattle.std.proofs.Common.{◌≡◌, ℕ, zero, ◌+◌, ◌-◌, ◌<◌, ◌≤◌, suc, Bool, List, [], ◌∷◌, ◌++◌, map, length, get_or, take, drop, fold, bit_xor, refl, sym, ap, ap₂, subst, ◌∙◌, arith}
+use Rattle.std.proofs.Common.{◌≡◌, ℕ, zero, ◌+◌, ◌-◌, ◌<◌, ◌≤◌, suc, Bool, true, List, [], ◌∷◌, ◌++◌, map, length, get_or, take, drop, fold, replicate, bit_xor, refl, sym, ap, ap₂, subst, ◌∙◌, arith}
 use Rattle.std.specs.List.{All}
 use Rattle.std.specs.Simd.Lanes.{zip2}
 use Rattle.std.proofs.lemmas.Grind.{same_number_lists}
@@ -10,7 +10,7 @@ use Rattle.std.proofs.lemmas.Simd.{length-chunk, get_or-chunk, length-zip2, get_
 use Rattle.sc_field.specs.Scale.{scaled_sum}
 use Rattle.sc_field.specs.Terms.{combined, sum_at, sum_from, IsWithin, Lanes}
 use Rattle.sc_field.proofs.Making.{same_lanes, length-sum_from, sum_from_same}
-use Rattle.sc_field.proofs.ScaledSum.{length-scaled_sum, get_or-scaled_sum}
+use Rattle.sc_field.proofs.ScaledSum.{length-scaled_sum, get_or-scaled_sum, scaled_sum-zeros}
 
 module _ {T : Type 0} (f : T → ℕ → ℕ) (place : T → ℕ) where
   pub length-combined : (terms : List T) (dst src : List ℕ) → length (combined f place terms dst src) ≡ length dst
@@ -36,6 +36,11 @@ module _ {T : Type 0} (f : T → ℕ → ℕ) (place : T → ℕ) where
   pub one_term : (t : T) (dst src : List ℕ) → place t ≡ 0 → length src ≡ length dst → combined f place (t ∷ []) dst src ≡ scaled_sum (f t) dst src
   one_term t dst src front same =
       ap (scaled_sum (f t) dst) (ap (λ (n : ℕ). take (length dst) (drop n src)) front ∙ take_all (length dst) src (omega arith))
+
+  pub one_over_zeros : (t : T) (dst src : List ℕ) → place t ≡ 0 → length src ≡ length dst → combined f place (t ∷ []) (sum_from true dst) src ≡ map (f t) src
+  one_over_zeros t dst src front same =
+      one_term t (sum_from true dst) src front (same ∙ sym (length-sum_from true dst))
+      ∙ ap (λ (n : ℕ). scaled_sum (f t) (replicate n 0) src) (sym same) ∙ scaled_sum-zeros (f t) src
 
   pub first_and_rest : (t : T) (terms : List T) → 0 < length terms → t ≡ get_or terms 0 t → terms ≡ t ∷ take (length terms - 1) (drop 1 terms)
   first_and_rest t [] lt is = absurd (omega arith)

@@ -45,25 +45,40 @@ impl<F: Field> Multiplier<F> {
         }
     }
 
-    // One vector of `sum` with the coefficient times one of `src` added.
+    // The products of a vector's bytes.
     #[inline(always)]
-    pub(crate) fn add(&self, sum: u8x32, src: u8x32) -> u8x32
-        ensures { result ≡ zip2 bit_xor sum (map (F.act self.now.coefficient) src) }
+    pub(crate) fn times(&self, src: u8x32) -> u8x32
+        ensures { result ≡ map (F.act self.now.coefficient) src }
     {
         let lows = twice(&self.low);
         let highs = twice(&self.high);
         let low = lows.swizzle_dyn_within::<16>(src & u8x32::splat(15));
         let high = highs.swizzle_dyn_within::<16>(src >> u8x32::splat(4));
-        sum ^ (low ^ high)
+        low ^ high
+    }
+
+    #[inline(always)]
+    pub(crate) fn times_short(&self, src: u8x16) -> u8x16
+        ensures { result ≡ map (F.act self.now.coefficient) src }
+    {
+        let low = u8x16::from_array(self.low).swizzle_dyn(src & u8x16::splat(15));
+        let high = u8x16::from_array(self.high).swizzle_dyn(src >> u8x16::splat(4));
+        low ^ high
+    }
+
+    // One vector of `sum` with the products of `src` added.
+    #[inline(always)]
+    pub(crate) fn add(&self, sum: u8x32, src: u8x32) -> u8x32
+        ensures { result ≡ zip2 bit_xor sum (map (F.act self.now.coefficient) src) }
+    {
+        sum ^ self.times(src)
     }
 
     #[inline(always)]
     pub(crate) fn add_short(&self, sum: u8x16, src: u8x16) -> u8x16
         ensures { result ≡ zip2 bit_xor sum (map (F.act self.now.coefficient) src) }
     {
-        let low = u8x16::from_array(self.low).swizzle_dyn(src & u8x16::splat(15));
-        let high = u8x16::from_array(self.high).swizzle_dyn(src >> u8x16::splat(4));
-        sum ^ (low ^ high)
+        sum ^ self.times_short(src)
     }
 }
 

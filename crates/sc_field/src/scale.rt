@@ -1,10 +1,21 @@
 //! Products of a field's element with many bytes at once.
-ghost use Rattle.std.specs.Prelude.{◌≡◌, length};
+ghost use Rattle.std.specs.Prelude.{◌≡◌, ◌+◌, ◌≤◌, map, length, if◌then◌else◌};
 ghost use Rattle.sc_field.specs.Scale.{scaled_sum};
 
 use crate::field::Field;
+use crate::lanes::{load, load_halves, load_short, store, store_halves, store_short};
 use crate::multiplier::Multiplier;
 use crate::terms::{Term, write_sum};
+
+/// Adds `src` to `dst`: each `dst[x]` becomes `dst[x]` xor `src[x]`.
+pub fn add_bytes(dst: &mut [u8], src: &[u8])
+    requires { length src.now ≡ length dst.old }
+    ensures { dst.new ≡ scaled_sum (λ b. b) dst.old src.now }
+{
+    for i in 0..dst.len() {
+        dst[i] ^= src[i];
+    }
+}
 
 /// Adds `c` times `src` to `dst`: each `dst[x]` becomes `dst[x]` xor `act(c, src[x])`.
 ///
@@ -13,11 +24,31 @@ pub fn scale_add<F: Field>(dst: &mut [u8], c: F, src: &[u8])
     requires { length src.now ≡ length dst.old }
     ensures { dst.new ≡ scaled_sum (F.act c) dst.old src.now }
 {
+    if add_unscaled(dst, c, src) {
+        return;
+    }
     if dst.len() < 32 {
         add_by_bytes(dst, c, src);
     } else {
-        Multiplier::new(c).scale_add(dst, src);
+        Multiplier::new(c).add_scaled(dst, src);
     }
+}
+
+// Where `c` is zero or one there is nothing to look up. Of any other coefficient it says so, and leaves `dst` as it is.
+#[inline(always)]
+fn add_unscaled<F: Field>(dst: &mut [u8], c: F, src: &[u8]) -> bool
+    requires { length src.now ≡ length dst.old }
+    ensures { dst.new ≡ (if result then scaled_sum (F.act c) dst.old src.now else dst.old) }
+{
+    c.known();
+    if c == F::zero() {
+        return true;
+    }
+    if c == F::one() {
+        add_bytes(dst, src);
+        return true;
+    }
+    false
 }
 
 fn add_by_bytes<F: Field>(dst: &mut [u8], c: F, src: &[u8])
@@ -36,11 +67,66 @@ impl<F: Field> Multiplier<F> {
         requires { length src.now ≡ length dst.old }
         ensures { dst.new ≡ scaled_sum (F.act self.now.coefficient) dst.old src.now }
     {
+        if !add_unscaled(dst, self.coefficient, src) {
+            self.add_scaled(dst, src);
+        }
+    }
+
+    #[inline(always)]
+    fn add_scaled(&self, dst: &mut [u8], src: &[u8])
+        requires { length src.now ≡ length dst.old }
+        ensures { dst.new ≡ scaled_sum (F.act self.now.coefficient) dst.old src.now }
+    {
         let term = Term {
             multiplier: *self,
             at: 0,
         };
         let rest = [];
         write_sum(dst, &term, &rest, src, false);
+    }
+
+    /// Writes the coefficient times `src` to `dst`: each `dst[x]` becomes `act(coefficient, src[x])`.
+    pub fn set(&self, dst: &mut [u8], src: &[u8])
+        requires { length src.now ≡ length dst.old }
+        ensures { dst.new ≡ map (F.act self.now.coefficient) src.now }
+    {
+        let term = Term {
+            multiplier: *self,
+            at: 0,
+        };
+        let rest = [];
+        write_sum(dst, &term, &rest, src, true);
+    }
+
+    /// Multiplies all of `dst` by the coefficient, in place.
+    pub fn scale(&self, dst: &mut [u8])
+        ensures { dst.new ≡ map (F.act self.now.coefficient) dst.old }
+    {
+        if dst.len() >= 32 {
+            self.scale_long(dst);
+        } else if dst.len() >= 16 {
+            let product = self.times(load_halves(dst, 0, dst.len()));
+            store_halves(dst, product);
+        } else if dst.len() > 0 {
+            let product = self.times_short(load_short(dst, 0, dst.len()));
+            store_short(dst, product);
+        }
+    }
+
+    // The last vector ends with the slice and may lie over the one before. So it is worked out from the bytes as they were.
+    fn scale_long(&self, dst: &mut [u8])
+        requires { 32 ≤ length dst.old }
+        ensures { dst.new ≡ map (F.act self.now.coefficient) dst.old }
+    {
+        let tables = *self;
+        let end = dst.len() - 32;
+        let last = tables.times(load(dst, end));
+        let mut at = 0;
+        while at < end {
+            let next = tables.times(load(dst, at));
+            store(dst, at, next);
+            at += 32;
+        }
+        store(dst, end, last);
     }
 }

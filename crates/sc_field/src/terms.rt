@@ -1,5 +1,5 @@
 //! One row of bytes made of many: a multiple of each of several pieces of a source, added up.
-ghost use Rattle.std.specs.Prelude.{◌≡◌, ◌∷◌, ◌+◌, ◌-◌, ◌<◌, ◌≤◌, ⊤, All, replicate, length, true, false, slice_index};
+ghost use Rattle.std.specs.Prelude.{◌≡◌, ◌↔◌, ◌∷◌, ◌+◌, ◌-◌, ◌<◌, ◌≤◌, ⊤, All, replicate, length, true, false, slice_index};
 ghost use Rattle.std.specs.Simd.Lanes.{chunk, put_chunk};
 ghost use Rattle.sc_field.specs.Terms.{combined, sum_at, sum_from, IsWithin, Lanes, two_ends, piece};
 
@@ -26,6 +26,18 @@ impl<F: Field> Clone for Term<F> {
     fn clone(&self) -> Result<Term<F>, AllocError> {
         Ok(*self)
     }
+}
+
+/// Whether each term has `width` bytes of the source from its place on, as [`combine`] asks.
+pub fn all_within<F: Field>(terms: &[Term<F>], width: usize, src: &[u8]) -> bool
+    ensures { (result ≡ true) ↔ All (λ t. IsWithin width src.now t.at) terms.now }
+{
+    for term in terms {
+        if src.len() < width || src.len() - width < term.at {
+            return false;
+        }
+    }
+    true
 }
 
 /// Writes to `dst` the sum of the terms: each `dst[x]` becomes the xor of `act(c, src[at + x])` over the terms' coefficients

@@ -73,37 +73,218 @@ fn gf2_products(rt: HostRuntime) -> Result<(), Fail> {
     Ok(())
 }
 
-// What `scale_add` makes of the first n of 148 bytes 0x11, where the other slice is 0x80, 0x8e and so on by turns.
-fn sums<F: Field>(rt: &impl Abort, c: F, n: usize, even: u8, odd: u8) -> Result<(), Fail>
-    requires { n ≤ 148 }
-{
-    let mut src = [0x80; 148];
-    for i in 0..148 {
-        if i % 2 == 1 {
-            src[i] = 0x8e;
+// The product of two bytes as its definition has it: x shifted for each set bit of y, reduced by 0x11D on the way.
+fn product_by_bits(x: u8, y: u8) -> u8 {
+    let mut sum = 0;
+    let mut shifted = x;
+    let mut bits = y;
+    for _ in 0..8 {
+        if bits & 1 == 1 {
+            sum ^= shifted;
+        }
+        bits >>= 1;
+        let low = (shifted & 127) << 1;
+        shifted = if shifted >= 128 { low ^ 0x1d } else { low };
+    }
+    sum
+}
+
+#[test]
+fn all_products(rt: HostRuntime) -> Result<(), Fail> {
+    for x in 0..=255 {
+        for y in 0..=255 {
+            let product = product_by_bits(x, y);
+            assert_eq!(rt; Gf256::from(x).act(y), product, "{x} on {y}");
+            assert_eq!(rt;
+                Gf256::from(x).mul(Gf256::from(y)).number(),
+                product,
+                "{x} * {y}"
+            );
         }
     }
-    let mut dst = [0x11; 148];
-    scale_add(&mut dst[..n], c, &src[..n]);
-    let mut again = [0x11; 148];
-    let multiplier = Multiplier::new(c).clone()?;
-    multiplier.scale_add(&mut again[..n], &src[..n]);
-    for i in 0..148 {
-        let sum = if i % 2 == 0 { even } else { odd };
-        let byte = if i < n { sum } else { 0x11 };
-        assert_eq!(rt; dst[i], byte, "place {i} of {n}");
-        assert_eq!(rt; again[i], byte, "place {i} of {n}, prepared");
+    Ok(())
+}
+
+// A byte that goes through many values with i.
+fn byte_at(i: usize, start: u8) -> u8 {
+    start.wrapping_add(((i % 256) as u8).wrapping_mul(37))
+}
+
+fn filled(start: u8) -> [u8; 1700] {
+    let mut bytes = [0; 1700];
+    for i in 0..1700 {
+        bytes[i] = byte_at(i, start);
+    }
+    bytes
+}
+
+// The numbers of the coefficients that are tried, which have zero, one and bytes with high and low halves.
+const NUMBERS: [u8; 6] = [0, 1, 2, 29, 142, 255];
+
+// Compares what was written to the `n` bytes from place 3 on with what was to be there, and all others with what was there.
+fn written(
+    rt: &impl Abort,
+    name: &str,
+    now: &[u8; 1700],
+    old: &[u8; 1700],
+    due: &[u8; 1700],
+    n: usize,
+) {
+    for i in 0..1700 {
+        let byte = if 3 <= i && i - 3 < n {
+            due[i - 3]
+        } else {
+            old[i]
+        };
+        assert_eq!(rt; now[i], byte, "{name}: place {i} of {n} bytes");
+    }
+}
+
+// Each call with one coefficient, at n bytes that begin at an odd place.
+fn one_source(rt: &impl Abort, number: u8, n: usize)
+    requires { n ≤ 200 }
+{
+    let c = Gf256::from(number);
+    let src = filled(11);
+    let old = filled(200);
+    let mut product = [0; 1700];
+    let mut sum = [0; 1700];
+    let mut xor = [0; 1700];
+    let mut scaled = [0; 1700];
+    for i in 0..n {
+        product[i] = product_by_bits(number, src[i]);
+        sum[i] = old[i + 3] ^ product[i];
+        xor[i] = old[i + 3] ^ src[i];
+        scaled[i] = product_by_bits(number, old[i + 3]);
+    }
+    let mut now = old;
+    scale_add(&mut now[3..n + 3], c, &src[..n]);
+    written(rt, "scale_add", &now, &old, &sum, n);
+    now = old;
+    Multiplier::new(c).scale_add(&mut now[3..n + 3], &src[..n]);
+    written(rt, "Multiplier::scale_add", &now, &old, &sum, n);
+    now = old;
+    Multiplier::new(c).set(&mut now[3..n + 3], &src[..n]);
+    written(rt, "Multiplier::set", &now, &old, &product, n);
+    now = old;
+    Multiplier::new(c).scale(&mut now[3..n + 3]);
+    written(rt, "Multiplier::scale", &now, &old, &scaled, n);
+    now = old;
+    add_bytes(&mut now[3..n + 3], &src[..n]);
+    written(rt, "add_bytes", &now, &old, &xor, n);
+}
+
+#[test]
+fn one_source_at_each_width(rt: HostRuntime) -> Result<(), Fail> {
+    for number in NUMBERS {
+        for n in 0..=100 {
+            one_source(&rt, number, n);
+        }
+        one_source(&rt, number, 148);
+    }
+    Ok(())
+}
+
+// Both calls with so many sources, which overlap, lie in no order, and the last of which ends with the source.
+fn many_sources(rt: &impl Abort, count: usize, n: usize)
+    requires count { count ≤ 10 }
+    requires width { (1 ≤ n) × (n ≤ 148) }
+{
+    let src = filled(11);
+    let old = filled(200);
+    let none = Term {
+        multiplier: Multiplier::new(Gf256::zero()),
+        at: 0,
+    };
+    let mut terms = [none; 10];
+    let mut alone = [0; 1700];
+    let mut added = [0; 1700];
+    for i in 0..n {
+        added[i] = old[i + 3];
+    }
+    for k in 0..count {
+        let number = byte_at(k, 29);
+        let at = if k + 1 == count {
+            1700 - n
+        } else {
+            k * 97 % 700
+        };
+        terms[k] = Term {
+            multiplier: Multiplier::new(Gf256::from(number)),
+            at,
+        };
+        for i in 0..n {
+            let product = if at + i < 1700 {
+                product_by_bits(number, src[at + i])
+            } else {
+                0
+            };
+            alone[i] ^= product;
+            added[i] ^= product;
+        }
+    }
+    let terms = &terms[..count];
+    assert!(rt;
+        !all_within(terms, n + 1, &src) || count == 0,
+        "{count} sources have no room for more than {n} bytes"
+    );
+    assert!(rt;
+        all_within(terms, n, &src),
+        "{count} sources have room for {n} bytes"
+    );
+    let mut now = old;
+    combine(&mut now[3..n + 3], terms, &src);
+    written(rt, "combine", &now, &old, &alone, n);
+    now = old;
+    combine_add(&mut now[3..n + 3], terms, &src);
+    written(rt, "combine_add", &now, &old, &added, n);
+}
+
+#[test]
+fn many_sources_at_each_width(rt: HostRuntime) -> Result<(), Fail> {
+    for n in [
+        1, 2, 3, 4, 5, 6, 7, 8, 15, 16, 17, 20, 31, 32, 33, 41, 64, 65, 96, 97, 134, 148,
+    ] {
+        for count in 0..=10 {
+            many_sources(&rt, count, n);
+        }
     }
     Ok(())
 }
 
 #[test]
-fn sums_at_each_length(rt: HostRuntime) -> Result<(), Fail> {
-    for n in [0, 1, 15, 16, 17, 20, 31, 33, 148] {
-        sums(&rt, element::<Gf256>(2)?, n, 0x0c, 0x10)?;
-        sums(&rt, Gf256::zero(), n, 0x11, 0x11)?;
-        sums(&rt, Gf2::one(), n, 0x91, 0x9f)?;
-        sums(&rt, Gf2::zero(), n, 0x11, 0x11)?;
-    }
+fn no_bytes_and_no_terms(rt: HostRuntime) -> Result<(), Fail> {
+    let mut none: [u8; 0] = [];
+    let terms: [Term<Gf2>; 0] = [];
+    combine(&mut none, &terms, &[]);
+    combine_add(&mut none, &terms, &[]);
+    let mut some = [5; 20];
+    combine_add(&mut some, &terms, &[]);
+    assert_eq!(rt; some, [5; 20]);
+    combine(&mut some, &terms, &[]);
+    assert_eq!(rt; some, [0; 20]);
+    number_laws::<Gf2>();
+    sum_laws::<Term<Gf256>>();
+    Ok(())
+}
+
+#[test]
+fn sums_over_two_elements(rt: HostRuntime) -> Result<(), Fail> {
+    let src = [0x53; 40];
+    let mut dst = [0x11; 33];
+    scale_add(&mut dst, Gf2::zero(), &src[..33]);
+    assert_eq!(rt; dst, [0x11; 33]);
+    Multiplier::new(Gf2::one())
+        .clone()?
+        .scale_add(&mut dst, &src[..33]);
+    assert_eq!(rt; dst, [0x42; 33]);
+    let one = Term {
+        multiplier: Multiplier::new(Gf2::one()),
+        at: 7,
+    };
+    let terms = [one, one.clone()?, one];
+    assert!(rt; all_within(&terms, 33, &src));
+    combine_add(&mut dst, &terms, &src);
+    assert_eq!(rt; dst, [0x11; 33]);
     Ok(())
 }

@@ -1,0 +1,6 @@
+use Rattle.std.proofs.Common.{All, take}
+use Rattle.sc_field.specs.Terms.{IsWithin}
+use Rattle.sc_field.proofs.terms.all_within.Given as goal
+
+abbrev pub invariant-loop-term : goal.invariant-loop-term
+invariant-loop-term g l = All (λ t. IsWithin l.width l.src t.at) (take l.term-index l.terms)
