@@ -6,8 +6,8 @@ use Rattle.sc_matrix.specs.Laws.{AreDotLaws, AreProductLaws, AreKernelLaws, AreR
 use Rattle.sc_matrix.proofs.ModuleLaws.{value-dot, dot-add_left, dot-scale_left, dot-add_right, dot-scale_right, dot-append, dot_unit}
 use Rattle.sc_matrix.proofs.Modules.{field_module, dot-combination}
 use Rattle.sc_matrix.proofs.ProductLaws.{entry-product, apply-product, apply-add_vectors, apply-scale_vector, product_assoc, product-sum_left, product-sum_right, apply-identity, product-identity_left}
-use Rattle.sc_matrix.proofs.TransposeLaws.{entry-transpose, transpose-transpose, transpose-product}
-use Rattle.sc_matrix.proofs.RowSpaceLaws.{kernel_subspace, row_space-kernel, kernel-one_row_space, row_space_subspace, row-in_row_space, row_space-rows_in, row_space-swap_rows, row_space-scale_row, row_space-add_row, swap_rows-swap_rows, scale_row-inverse, add_row-negative}
+use Rattle.sc_matrix.proofs.TransposeLaws.{entry-transpose, transpose-transpose, transpose-product, apply-transpose}
+use Rattle.sc_matrix.proofs.RowSpaceLaws.{kernel_subspace, kernel-stacked, add_row_from-zeros, row_space-kernel, kernel-one_row_space, row_space_subspace, row-in_row_space, row_space-rows_in, row_space-swap_rows, row_space-scale_row, row_space-add_row, swap_rows-swap_rows, scale_row-inverse, add_row-negative}
 
 module _ {C A : Type 0} {IsElement : C → Type 0} {zero one : C} {add sub mul : C → C → C} {inv : C → C} {IsValue : A → Type 0} {none : A} {plus : A → A → A} {times : C → A → A} (laws : IsField IsElement zero one add sub mul inv) (ml : IsModule IsElement zero one add mul IsValue none plus times) where
   pub dot_laws : AreDotLaws IsElement zero one add mul IsValue none plus times
@@ -36,7 +36,12 @@ module _ {C A : Type 0} {IsElement : C → Type 0} {zero one : C} {add sub mul :
   }
 
   pub kernel_laws : AreKernelLaws IsElement zero one add mul IsValue none plus times
-  kernel_laws = record { subspace = kernel_subspace laws ml; orthogonal = row_space-kernel laws ml; one_row_space = kernel-one_row_space laws ml }
+  kernel_laws = record {
+    subspace = kernel_subspace laws ml;
+    orthogonal = row_space-kernel laws ml;
+    of_stack = kernel-stacked none plus times;
+    one_row_space = kernel-one_row_space laws ml;
+  }
 
 module _ {A : Type 0} {IsElement : A → Type 0} {zero one : A} {add sub mul : A → A → A} {inv : A → A} (laws : IsField IsElement zero one add sub mul inv) where
   pub row_space_laws : AreRowSpaceLaws IsElement zero one add sub mul inv
@@ -47,10 +52,11 @@ module _ {A : Type 0} {IsElement : A → Type 0} {zero one : A} {add sub mul : A
     swap = row_space-swap_rows laws;
     scale = row_space-scale_row laws;
     sum = row_space-add_row laws;
+    sum_from = add_row_from-zeros laws;
     swap_back = swap_rows-swap_rows laws;
     scale_back = scale_row-inverse laws;
     sum_back = add_row-negative laws;
   }
 
   pub transpose_laws : AreTransposeLaws IsElement zero one add sub mul inv
-  transpose_laws = record { twice = λ m hm. transpose-transpose IsElement zero m hm; of_product = transpose-product laws; entries = entry-transpose zero }
+  transpose_laws = record { left = λ p cs m hm hc. apply-transpose laws cs m hm hc; twice = λ m hm. transpose-transpose IsElement zero m hm; of_product = transpose-product laws; entries = entry-transpose zero }

@@ -1,17 +1,17 @@
 -- The row space and the kernel: both are subspaces, a vector of the kernel has a zero dot product with each of the row
 -- space, and each row operation keeps both, since another undoes it. A vector of the kernel may have values of any module.
-use Rattle.std.proofs.Common.{◌≡◌, ◌≢◌, ◌↔◌, ℕ, ◌<◌, List, [], ◌∷◌, length, get_or, set, swap, map, replicate, All, subst, inl, inr, refl, sym, ◌∙◌, ap, ap₂, arith}
-use Rattle.std.proofs.lemmas.Bool.{cases_eq}
-use Rattle.std.proofs.lemmas.List.{length-map, length-set, length-replicate, get_or-map, get_or-replicate, get_or-set_same, get_or-set_other, set-set, set-get_or, ext_get_or, get_or_default}
-use Rattle.std.proofs.lemmas.List.Elements.{All-set}
+use Rattle.std.proofs.Common.{◌≡◌, ◌≢◌, ◌↔◌, ℕ, ◌+◌, ◌-◌, ◌<◌, ◌≤◌, List, [], ◌∷◌, ◌++◌, length, get_or, set, swap, map, take, drop, replicate, All, subst, inl, inr, refl, sym, ◌∙◌, ap, ap₂, arith}
+use Rattle.std.proofs.lemmas.Bool.{cases_eq, cases_lt}
+use Rattle.std.proofs.lemmas.List.{length-map, length-set, length-replicate, get_or-map, get_or-replicate, get_or-set_same, get_or-set_other, set-set, set-get_or, ext_get_or, get_or_default, length-append, get_or_append_left, get_or-append-add, get_or-append_right, get_or-take, get_or-drop, length-take-le, length-drop}
+use Rattle.std.proofs.lemmas.List.Elements.{All-set, All-append}
 use Rattle.std.proofs.lemmas.List.Edits.{swap_is, length-swap}
 use Rattle.sc_field.specs.Field.{IsField}
-use Rattle.sc_field.specs.FieldLemmas.{inv-nonzero}
+use Rattle.sc_field.specs.FieldLemmas.{mul_zero}
 use Rattle.sc_matrix.specs.Module.{IsModule}
 use Rattle.sc_matrix.specs.Vector.{IsVector, add_vectors, scale_vector, dot, combination, unit_vector}
-use Rattle.sc_matrix.specs.Matrix.{Matrix, IsMatrix, IsInKernel, row, row_count, with_row, apply, swap_rows, scale_row, add_row}
+use Rattle.sc_matrix.specs.Matrix.{Matrix, IsMatrix, IsInKernel, row, row_count, with_row, apply, swap_rows, scale_row, add_row, add_row_from, entry, stacked}
 use Rattle.sc_matrix.specs.RowSpace.{IsSubspace, IsInRowSpace, RowsAreIn, HaveOneRowSpace}
-use Rattle.sc_matrix.proofs.VectorLaws.{head, tail, IsVector-replicate, IsVector-add_vectors, IsVector-map, vector_of}
+use Rattle.sc_matrix.proofs.VectorLaws.{head, tail, IsVector-replicate, IsVector-add_vectors, IsVector-map, vector_of, entry_at, length-add_vectors, get_or-add_vectors, length-scale_vector, get_or-scale_vector}
 use Rattle.sc_matrix.proofs.ModuleLaws.{dot_zero_left, dot_zero_right, dot-add_left, dot-scale_left, dot_unit, inv_times, plus_times_back, times_none}
 use Rattle.sc_matrix.proofs.Modules.{field_module, vector_module, dot-combination}
 use Rattle.sc_matrix.proofs.MatrixLaws.{matrix_rows, IsMatrix-with_row, IsMatrix-swap_rows}
@@ -77,6 +77,24 @@ module _ {C A : Type 0} (none : A) (plus : A → A → A) (times : C → A → A
         let h : k < row_count m = omega arith in
         get_or-map (λ (r : List C). dot none plus times r v) m.rows k [] none h ∙ all k [] h ∙ sym (get_or-replicate (row_count m) k none none h)),
   )
+
+  -- the kernel of stacked matrices is what their kernels have in common
+  pub kernel-stacked : (a b : Matrix C) (v : List A) → a.cols ≡ b.cols → IsInKernel none plus times (stacked a b) v ↔ (IsInKernel none plus times a v × IsInKernel none plus times b v)
+  kernel-stacked a b v e =
+      let n = length-append a.rows b.rows in (
+        λ h.
+            let all = (kernel_rows (stacked a b) v).0 h.zeros in (
+              record { width = h.width; zeros = (kernel_rows a v).1 (λ k d lt. subst (λ (r : List C). dot none plus times r v ≡ none) (get_or_append_left a.rows b.rows d k lt) (all k d (omega arith))) },
+              record {
+                width = h.width ∙ e;
+                zeros = (kernel_rows b v).1 (λ k d lt. subst (λ (r : List C). dot none plus times r v ≡ none) (get_or-append-add a.rows b.rows k d) (all (length a.rows + k) d (omega arith)));
+              },
+            ),
+        λ h. record {
+          width = h.0.width;
+          zeros = (kernel_rows (stacked a b) v).1 (All-append (λ (r : List C). dot none plus times r v ≡ none) a.rows b.rows ((kernel_rows a v).0 h.0.zeros) ((kernel_rows b v).0 h.1.zeros));
+        },
+      )
 
 module _ {C A : Type 0} {IsElement : C → Type 0} {zero one : C} {add sub mul : C → C → C} {inv : C → C} {IsValue : A → Type 0} {none : A} {plus : A → A → A} {times : C → A → A} (laws : IsField IsElement zero one add sub mul inv) (ml : IsModule IsElement zero one add mul IsValue none plus times) where
   pub kernel_subspace : (m : Matrix C) → IsMatrix IsElement m → IsSubspace IsElement (replicate m.cols none) (add_vectors plus) (scale_vector times) (λ (v : List A). IsVector IsValue m.cols v × IsInKernel none plus times m v)
@@ -211,6 +229,41 @@ module _ {A : Type 0} {IsElement : A → Type 0} {zero one : A} {add sub mul : A
       written_back m a v _
       (ap₂ (λ (r s : List A). add_vectors add r (scale_vector mul (sub zero c) s)) (get_or-set_same m.rows a v [] ha) (get_or-set_other m.rows a b v [] (λ e. ne (sym e)))
       ∙ plus_times_back laws (vectors m.cols) c (row m a) (row m b) hc (hm.vectors a [] ha) (hm.vectors b [] hb))
+
+  -- where row b is zero before a column, its multiple may be added from there on
+  pub add_row_from-zeros : (m : Matrix A) (a b : ℕ) (c : A) (start : ℕ) → IsMatrix IsElement m → IsElement c → a < row_count m → b < row_count m → start ≤ m.cols → ((j : ℕ) → j < start → entry zero m b j ≡ zero) → add_row_from add mul m a c b start ≡ add_row add mul m a c b
+  add_row_from-zeros m a b c start hm hc ha hb le zeros =
+      let u = row m a in
+      let v = row m b in
+      let wu : length u ≡ m.cols = (hm.vectors a [] ha).width in
+      let wv : length v ≡ m.cols = (hm.vectors b [] hb).width in
+      let front : length (take start u) ≡ start = length-take-le start u (omega arith) in
+      let du = length-drop start u in
+      let dv = length-drop start v in
+      let sv = length-scale_vector mul c (drop start v) in
+      let cv = length-scale_vector mul c v in
+      let rest : List A = add_vectors add (drop start u) (scale_vector mul c (drop start v)) in
+      let lr : length rest ≡ length (drop start u) = length-add_vectors add (drop start u) (scale_vector mul c (drop start v)) (omega arith) in
+      let ll = length-append (take start u) rest in
+      let whole : length (add_vectors add u (scale_vector mul c v)) ≡ length u = length-add_vectors add u (scale_vector mul c v) (omega arith) in
+      ap (with_row m a)
+      (ext_get_or zero (take start u ++ rest) (add_vectors add u (scale_vector mul c v)) (omega arith)
+      (λ k h.
+      let sum : get_or (add_vectors add u (scale_vector mul c v)) k zero ≡ add (get_or u k zero) (mul c (get_or v k zero)) =
+      get_or-add_vectors add u (scale_vector mul c v) k zero (omega arith) (omega arith) ∙ ap (add (get_or u k zero)) (get_or-scale_vector mul c v k zero (omega arith)) in
+      elim (cases_lt k start) [
+        | inl lt ↦
+            get_or_append_left (take start u) rest zero k (omega arith) ∙ get_or-take start u k zero lt
+            ∙ sym (sum ∙ ap (λ (x : A). add (get_or u k zero) (mul c x)) (zeros k lt) ∙ ap (add (get_or u k zero)) (mul_zero laws c hc)
+            ∙ laws.add_zero (get_or u k zero) (entry_at k zero (hm.vectors a [] ha) (omega arith)))
+        | inr ge ↦
+            (let at : start + (k - start) ≡ k = omega arith in
+            get_or-append_right (take start u) rest start k zero front ge
+            ∙ get_or-add_vectors add (drop start u) (scale_vector mul c (drop start v)) (k - start) zero (omega arith) (omega arith)
+            ∙ ap₂ add (get_or-drop start u (k - start) zero ∙ ap (λ (j : ℕ). get_or u j zero) at)
+            (get_or-scale_vector mul c (drop start v) (k - start) zero (omega arith) ∙ ap (mul c) (get_or-drop start v (k - start) zero ∙ ap (λ (j : ℕ). get_or v j zero) at))
+            ∙ sym sum)
+      ]))
 
   IsMatrix-scale_row : (m : Matrix A) (a : ℕ) (c : A) → IsMatrix IsElement m → IsElement c → a < row_count m → IsMatrix IsElement (scale_row mul m a c)
   IsMatrix-scale_row m a c hm hc ha = IsMatrix-with_row m a _ hm ((vectors m.cols).times_value c (row m a) hc (hm.vectors a [] ha))

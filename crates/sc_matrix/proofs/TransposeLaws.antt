@@ -3,9 +3,10 @@ use Rattle.std.proofs.Common.{◌≡◌, ℕ, ◌+◌, ◌<◌, List, [], length
 use Rattle.std.proofs.lemmas.List.{length-map, get_or-map, ext_get_or}
 use Rattle.std.proofs.lemmas.List.FromFn.{length-map-range_with_len, get_or-map-range_with_len}
 use Rattle.sc_field.specs.Field.{IsField}
-use Rattle.sc_matrix.specs.Vector.{dot}
+use Rattle.sc_matrix.specs.Vector.{IsVector, dot, combination}
 use Rattle.sc_matrix.specs.Matrix.{Matrix, IsMatrix, row, row_count, entry, column, apply, transpose, product}
-use Rattle.sc_matrix.proofs.MatrixLaws.{elements-column, IsMatrix-transpose}
+use Rattle.sc_matrix.proofs.MatrixLaws.{matrix_rows, elements-column, IsMatrix-transpose}
+use Rattle.sc_matrix.proofs.VectorLaws.{length-combination, get_or-combination}
 use Rattle.sc_matrix.proofs.ModuleLaws.{dot_comm}
 use Rattle.sc_matrix.proofs.Modules.{field_module}
 use Rattle.sc_matrix.proofs.ProductLaws.{same_matrix, IsMatrix-product, entry-product}
@@ -77,3 +78,15 @@ module _ {A : Type 0} {IsElement : A → Type 0} {zero one : A} {add sub mul : A
       ∙ dot_comm laws (row a i) (column zero b j) (ha.vectors i [] hi) (elements-column zero b j hb hj)
       ∙ ap₂ (dot zero add mul) (sym (row-transpose zero b j hj)) (sym (column-transpose IsElement zero a i ha hi))
       ∙ sym (entry-product zero add mul (transpose zero b) (transpose zero a) j i ta j_in hi))
+
+  -- a vector times a matrix is the transpose times the vector
+  pub apply-transpose : {p : ℕ} (cs : List A) (m : Matrix A) → IsMatrix IsElement m → IsVector IsElement p cs → combination zero add mul m.cols cs m.rows ≡ apply zero add mul (transpose zero m) cs
+  apply-transpose cs m hm hc =
+      let l = length-combination zero add mul m.cols cs m.rows (matrix_rows hm) in
+      let n = row_count-transpose zero m in
+      let k = length-map (transpose zero m).rows (λ (r : List A). dot zero add mul r cs) in
+      ext_get_or zero (combination zero add mul m.cols cs m.rows) (apply zero add mul (transpose zero m) cs) (omega arith)
+      (λ j h.
+      get_or-combination zero add mul m.cols cs m.rows j (matrix_rows hm) (omega arith)
+      ∙ dot_comm laws cs (column zero m j) hc (elements-column zero m j hm (omega arith))
+      ∙ sym (get_or-map (λ (r : List A). dot zero add mul r cs) (transpose zero m).rows j [] zero (omega arith) ∙ ap (λ (r : List A). dot zero add mul r cs) (row-transpose zero m j (omega arith))))

@@ -1,8 +1,8 @@
 -- What is promised of vectors and matrices, whatever the field is. Each record states laws of linear algebra over the
 -- operations of a field and of a module over it, and a public function has it as its contract.
-use Rattle.std.specs.Prelude.{◌≡◌, ◌≢◌, ◌↔◌, ℕ, ◌<◌, List, ◌++◌, length, map, replicate, slice_index_or}
+use Rattle.std.specs.Prelude.{◌≡◌, ◌≢◌, ◌↔◌, ℕ, ◌<◌, ◌≤◌, List, ◌++◌, length, map, replicate, slice_index_or}
 use Rattle.sc_matrix.specs.Vector.{IsVector, add_vectors, scale_vector, dot, combination, unit_vector}
-use Rattle.sc_matrix.specs.Matrix.{Matrix, IsMatrix, IsInKernel, row_count, row, entry, column, apply, product, matrix_sum, identity, transpose, swap_rows, scale_row, add_row}
+use Rattle.sc_matrix.specs.Matrix.{Matrix, IsMatrix, IsInKernel, row_count, row, entry, column, apply, product, matrix_sum, identity, transpose, swap_rows, scale_row, add_row, add_row_from, stacked}
 use Rattle.sc_matrix.specs.RowSpace.{IsSubspace, IsInRowSpace, RowsAreIn, HaveOneRowSpace}
 
 module _ {C A : Type 0} (IsElement : C → Type 0) (zero one : C) (add mul : C → C → C) (IsValue : A → Type 0) (none : A) (plus : A → A → A) (times : C → A → A) where
@@ -43,12 +43,15 @@ module _ {C A : Type 0} (IsElement : C → Type 0) (zero one : C) (add mul : C �
     pub entries : (a : Matrix C) (b : Matrix A) (i j : ℕ) → IsMatrix IsValue b → i < row_count a → j < b.cols
         → entry none (product none plus times a b) i j ≡ dot none plus times (row a i) (column none b j)
 
-  -- The kernel is a subspace, its vectors have a zero dot product with the row space, and one row space has one kernel.
+  -- The kernel is a subspace, its vectors have a zero dot product with the row space, and one row space has one kernel. The
+  -- kernel of stacked matrices is what their kernels have in common.
   pub record AreKernelLaws : Type 0 where
     pub subspace : (m : Matrix C) → IsMatrix IsElement m
         → IsSubspace IsElement (replicate m.cols none) (add_vectors plus) (scale_vector times) (λ (v : List A). IsVector IsValue m.cols v × IsInKernel none plus times m v)
     pub orthogonal : (m : Matrix C) (r : List C) (v : List A) → IsMatrix IsElement m → IsInRowSpace IsElement zero add mul m r → IsVector IsValue m.cols v → IsInKernel none plus times m v
         → dot none plus times r v ≡ none
+    pub of_stack : (a b : Matrix C) (v : List A) → a.cols ≡ b.cols
+        → IsInKernel none plus times (stacked a b) v ↔ (IsInKernel none plus times a v × IsInKernel none plus times b v)
     pub one_row_space : (k m : Matrix C) (v : List A) → IsMatrix IsElement k → IsMatrix IsElement m → HaveOneRowSpace IsElement zero add mul k m → IsVector IsValue m.cols v
         → IsInKernel none plus times k v ↔ IsInKernel none plus times m v
 
@@ -61,13 +64,16 @@ module _ {A : Type 0} (IsElement : A → Type 0) (zero one : A) (add sub mul : A
     pub swap : (m : Matrix A) (a b : ℕ) → IsMatrix IsElement m → a < row_count m → b < row_count m → HaveOneRowSpace IsElement zero add mul (swap_rows m a b) m
     pub scale : (m : Matrix A) (a : ℕ) (c : A) → IsMatrix IsElement m → IsElement c → c ≢ zero → a < row_count m → HaveOneRowSpace IsElement zero add mul (scale_row mul m a c) m
     pub sum : (m : Matrix A) (a b : ℕ) (c : A) → IsMatrix IsElement m → IsElement c → a < row_count m → b < row_count m → a ≢ b → HaveOneRowSpace IsElement zero add mul (add_row add mul m a c b) m
+    pub sum_from : (m : Matrix A) (a b : ℕ) (c : A) (start : ℕ) → IsMatrix IsElement m → IsElement c → a < row_count m → b < row_count m → start ≤ m.cols → ((j : ℕ) → j < start → entry zero m b j ≡ zero)
+        → add_row_from add mul m a c b start ≡ add_row add mul m a c b
     pub swap_back : (m : Matrix A) (a b : ℕ) → a < row_count m → b < row_count m → swap_rows (swap_rows m a b) a b ≡ m
     pub scale_back : (m : Matrix A) (a : ℕ) (c : A) → IsMatrix IsElement m → IsElement c → c ≢ zero → a < row_count m → scale_row mul (scale_row mul m a c) a (inv c) ≡ m
     pub sum_back : (m : Matrix A) (a b : ℕ) (c : A) → IsMatrix IsElement m → IsElement c → a < row_count m → b < row_count m → a ≢ b
         → add_row add mul (add_row add mul m a c b) a (sub zero c) b ≡ m
 
-  -- The transpose undoes itself and turns products round.
+  -- The transpose undoes itself and turns products round. A vector times a matrix is the transpose times the vector.
   pub record AreTransposeLaws : Type 0 where
+    pub left : (p : ℕ) (cs : List A) (m : Matrix A) → IsMatrix IsElement m → IsVector IsElement p cs → combination zero add mul m.cols cs m.rows ≡ apply zero add mul (transpose zero m) cs
     pub twice : (m : Matrix A) → IsMatrix IsElement m → transpose zero (transpose zero m) ≡ m
     pub of_product : (a b : Matrix A) → IsMatrix IsElement a → IsMatrix IsElement b → a.cols ≡ row_count b
         → transpose zero (product zero add mul a b) ≡ product zero add mul (transpose zero b) (transpose zero a)

@@ -73,6 +73,10 @@ module _ {A : Type 0} where
   abbrev pub submatrix : A → Matrix A → List ℕ → List ℕ → Matrix A
   submatrix zero m is js = record { cols = length js; rows = map (λ i. map (entry zero m i) js) is }
 
+  -- the rows of a and then those of b, which has as many columns
+  abbrev pub stacked : Matrix A → Matrix A → Matrix A
+  stacked a b = record { cols = a.cols; rows = a.rows ++ b.rows }
+
   -- the sum of two matrices: each row of a plus the row of b at its place
   abbrev pub matrix_sum : (A → A → A) → Matrix A → Matrix A → Matrix A
   matrix_sum add a b = record { cols = a.cols; rows = add_vectors (add_vectors add) a.rows b.rows }

@@ -16,15 +16,6 @@ pub(crate) fn known(xs: &[u8])
 {
 }
 
-// Multiplies each byte by `c`.
-pub(crate) fn scale<F: Field>(xs: &mut [u8], c: F)
-    ensures { xs.new ≡ map (F.act c) xs.old }
-{
-    for x in xs.iter_mut() {
-        *x = c.act(*x);
-    }
-}
-
 // Adds `c` times the `width` bytes from `from` on to those from `to` on. The two parts do not overlap.
 pub(crate) fn add_within<F: Field>(xs: &mut [u8], to: usize, c: F, from: usize, width: usize)
     requires to_in { to + width ≤ length xs.old }

@@ -2,8 +2,8 @@
 ghost use Rattle.std.specs.Prelude.{◌≡◌, ◌*◌, ◌≤◌, length};
 ghost use Rattle.sc_matrix.specs.Matrix.{most_entries};
 
-use crate::bytes::{add_within, combine_into, first_nonzero, known, scale, swap_within};
-use sc_field::Field;
+use crate::bytes::{add_within, combine_into, first_nonzero, known, swap_within};
+use sc_field::{Field, Multiplier};
 use sc_outside::NoMemory;
 use std::alloc::Global;
 
@@ -110,7 +110,8 @@ impl Rows {
         ensures { table self.new ≡ with_entry (table self.old) i j byte }
     {
         let start = self.start(i);
-        self.bytes[start + j] = byte;
+        let at = start + j;
+        self.bytes[at] = byte;
     }
 
     pub(crate) fn write_row(&mut self, i: usize, bytes: &[u8])
@@ -172,7 +173,7 @@ impl Rows {
         ensures { table self.new ≡ scale_row F.act (table self.old) a c }
     {
         let start = self.start(a);
-        scale(&mut self.bytes[start..start + self.width], c);
+        Multiplier::new(c).scale(&mut self.bytes[start..start + self.width]);
     }
 
     // Adds `c` times row `b` to row `a`, another one, from place `from` on.
