@@ -1,7 +1,7 @@
 -- Steps of the loops over bytes and over rows, and what a write to parts of two rows makes of the rows.
-use Rattle.std.proofs.Common.{◌≡◌, ◌≢◌, ℕ, zero, suc, ◌+◌, ◌-◌, ◌*◌, ◌<◌, ◌≤◌, List, [], ◌∷◌, ◌++◌, length, get_or, set, swap, map, take, drop, bit_xor, Vec, refl, sym, ◌∙◌, ap, ap₂, arith}
+use Rattle.std.proofs.Common.{◌≡◌, ◌≢◌, ℕ, ◌+◌, ◌-◌, ◌*◌, ◌<◌, ◌≤◌, List, [], ◌∷◌, ◌++◌, length, get_or, set, swap, map, take, drop, bit_xor, Vec, refl, sym, ◌∙◌, ap, ap₂, arith}
 use Rattle.std.specs.Vec.{with_items}
-use Rattle.std.proofs.lemmas.List.{append_assoc, append-nil, drop_more, drop_all, map_more, take_more, take_all, set_at, get_or_at, length-map, length-append, length-take-le, length-drop, drop-drop, take-take, drop-take, take-append-drop, set_comm, map-append}
+use Rattle.std.proofs.lemmas.List.{append_assoc, append-nil, drop_more, drop_all, map_more, take_more, take_all, set_at, get_or_at, length-map, length-append, length-take-le, length-drop, drop-drop, take-take, drop-take, take-append-drop, set_comm}
 use Rattle.std.proofs.lemmas.List.Edits.{swap_is}
 use borrow.Rule.Slice.PartMut.{put_mid}
 use Rattle.sc_field.specs.Scale.{scaled_sum}

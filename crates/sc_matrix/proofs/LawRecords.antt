@@ -4,7 +4,7 @@ use Rattle.sc_field.specs.Field.{IsField}
 use Rattle.sc_matrix.specs.Module.{IsModule}
 use Rattle.sc_matrix.specs.Laws.{AreDotLaws, AreProductLaws, AreKernelLaws, AreRowSpaceLaws, AreTransposeLaws}
 use Rattle.sc_matrix.proofs.ModuleLaws.{value-dot, dot-add_left, dot-scale_left, dot-add_right, dot-scale_right, dot-append, dot_unit}
-use Rattle.sc_matrix.proofs.Modules.{field_module, dot-combination}
+use Rattle.sc_matrix.proofs.Modules.{dot-combination}
 use Rattle.sc_matrix.proofs.ProductLaws.{entry-product, apply-product, apply-add_vectors, apply-scale_vector, product_assoc, product-sum_left, product-sum_right, apply-identity, product-identity_left}
 use Rattle.sc_matrix.proofs.TransposeLaws.{entry-transpose, transpose-transpose, transpose-product, apply-transpose}
 use Rattle.sc_matrix.proofs.RowSpaceLaws.{kernel_subspace, kernel-stacked, add_row_from-zeros, row_space-kernel, kernel-one_row_space, row_space_subspace, row-in_row_space, row_space-rows_in, row_space-swap_rows, row_space-scale_row, row_space-add_row, swap_rows-swap_rows, scale_row-inverse, add_row-negative}

@@ -26,5 +26,6 @@ pub mod TransposeLaws
 pub mod RowSpaceLaws
 pub mod LawRecords
 pub mod NumberLaws
+pub mod EqualLaws
 pub mod LayoutLaws
 pub mod ByteSteps

@@ -1,8 +1,8 @@
 -- Matrices of entries of one kind, and maps of the entries of a matrix.
-use Rattle.std.proofs.Common.{◌≡◌, ℕ, zero as naught, suc, ◌+◌, ◌<◌, List, [], ◌∷◌, length, get_or, set, swap, map, take, replicate, All, refl, sym, ◌∙◌, ap, ap₂, subst, inl, inr, arith}
+use Rattle.std.proofs.Common.{◌≡◌, ℕ, zero as naught, suc, ◌+◌, ◌<◌, List, [], ◌∷◌, length, get_or, set, map, replicate, All, refl, sym, ◌∙◌, ap, ap₂, subst, inl, inr, arith}
 use Rattle.std.specs.List.{range_with_len}
 use Rattle.std.proofs.lemmas.Bool.{cases_lt}
-use Rattle.std.proofs.lemmas.List.{length-map, map-set, take-map, map_push, get_or_past, get_or_default}
+use Rattle.std.proofs.lemmas.List.{length-map, map-set, take-map, map_push, get_or_past}
 use Rattle.std.proofs.lemmas.List.Elements.{All-map, All-set, All-append, All-take, All-replicate}
 use Rattle.std.proofs.lemmas.List.Edits.{swap_is}
 use Rattle.std.proofs.lemmas.List.FromFn.{length-range_with_len, get_or-range_with_len}
@@ -131,13 +131,13 @@ module _ {A B : Type 0} (f : A → B) where
   pub map-zero_matrix : (n c : ℕ) (d : A) (e : B) → f d ≡ e → map_matrix f (zero_matrix d n c) ≡ zero_matrix e n c
   map-zero_matrix n c d e h =
       ap (λ (rows : List (List B)). let r : Matrix B = record { cols = c; rows = rows } in r) (rows n ∙ ap (replicate n) (zeros c)) where
-    zeros : (k : ℕ) → map f (replicate k d) ≡ replicate k e
-    zeros naught = refl
-    zeros (suc k) = ap₂ (λ (y : B) (ys : List B). y ∷ ys) h (zeros k)
+        zeros : (k : ℕ) → map f (replicate k d) ≡ replicate k e
+        zeros naught = refl
+        zeros (suc k) = ap₂ (λ (y : B) (ys : List B). y ∷ ys) h (zeros k)
 
-    rows : (k : ℕ) → map (map f) (replicate k (replicate c d)) ≡ replicate k (map f (replicate c d))
-    rows naught = refl
-    rows (suc k) = ap (λ (ys : List (List B)). map f (replicate c d) ∷ ys) (rows k)
+        rows : (k : ℕ) → map (map f) (replicate k (replicate c d)) ≡ replicate k (map f (replicate c d))
+        rows naught = refl
+        rows (suc k) = ap (λ (ys : List (List B)). map f (replicate c d) ∷ ys) (rows k)
 
   pub map-column : (m : Matrix A) (j : ℕ) (d : A) (e : B) → f d ≡ e → map f (column d m j) ≡ column e (map_matrix f m) j
   map-column m j d e h = rows m.rows where
@@ -148,9 +148,9 @@ module _ {A B : Type 0} (f : A → B) where
   pub map-transpose : (m : Matrix A) (d : A) (e : B) → f d ≡ e → map_matrix f (transpose d m) ≡ transpose e (map_matrix f m)
   map-transpose m d e h =
       ap₂ (λ (c : ℕ) (rows : List (List B)). let r : Matrix B = record { cols = c; rows = rows } in r) (sym (row_count-map m)) (columns (range_with_len 0 m.cols)) where
-    columns : (js : List ℕ) → map (map f) (map (column d m) js) ≡ map (column e (map_matrix f m)) js
-    columns [] = refl
-    columns (j ∷ js) = ap₂ (λ (y : List B) (ys : List (List B)). y ∷ ys) (map-column m j d e h) (columns js)
+        columns : (js : List ℕ) → map (map f) (map (column d m) js) ≡ map (column e (map_matrix f m)) js
+        columns [] = refl
+        columns (j ∷ js) = ap₂ (λ (y : List B) (ys : List (List B)). y ∷ ys) (map-column m j d e h) (columns js)
 
   pub map-submatrix : (m : Matrix A) (is js : List ℕ) (d : A) (e : B) → f d ≡ e → map_matrix f (submatrix d m is js) ≡ submatrix e (map_matrix f m) is js
   map-submatrix m is js d e h = ap (λ (rows : List (List B)). let r : Matrix B = record { cols = length js; rows = rows } in r) (rows is) where

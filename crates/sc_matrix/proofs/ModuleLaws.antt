@@ -1,13 +1,13 @@
 -- Laws of a module over a field, and of dot products of scalars and values of the module. A linear combination is such a
 -- dot product in the module of vectors (`vector_module` of Modules). The laws of the field come first: under a bound
 -- `F: Field` they are `g.met.F.Field.field`.
-use Rattle.std.proofs.Common.{◌≡◌, ◌≢◌, ℕ, zero as naught, suc, ◌+◌, ◌-◌, ◌<◌, List, [], ◌∷◌, ◌++◌, length, get_or, map, take, replicate, All, refl, sym, ◌∙◌, ap, ap₂, arith}
-use Rattle.std.proofs.lemmas.List.{take_more, length-take-le}
+use Rattle.std.proofs.Common.{◌≡◌, ◌≢◌, ℕ, zero as naught, suc, ◌+◌, ◌<◌, List, [], ◌∷◌, ◌++◌, length, get_or, map, take, replicate, refl, sym, ◌∙◌, ap, ap₂, arith}
+use Rattle.std.proofs.lemmas.List.{take_more}
 use Rattle.sc_field.specs.Field.{IsField}
 use Rattle.sc_field.specs.FieldLemmas.{mul_zero, inv_mul}
 use Rattle.sc_matrix.specs.Module.{IsModule, IsLinear}
 use Rattle.sc_matrix.specs.Vector.{IsVector, add_vectors, scale_vector, dot, unit_vector}
-use Rattle.sc_matrix.proofs.VectorLaws.{head, tail, entry_at, dot_nil_right, IsVector-replicate, IsVector-take}
+use Rattle.sc_matrix.proofs.VectorLaws.{head, tail, entry_at, IsVector-replicate, IsVector-take}
 
 module _ {C A : Type 0} {IsElement : C → Type 0} {zero one : C} {add sub mul : C → C → C} {inv : C → C} {IsValue : A → Type 0} {none : A} {plus : A → A → A} {times : C → A → A} (laws : IsField IsElement zero one add sub mul inv) (ml : IsModule IsElement zero one add mul IsValue none plus times) where
   -- ---- sums and products of values

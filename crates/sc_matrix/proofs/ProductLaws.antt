@@ -1,6 +1,6 @@
 -- Laws of the products of matrices, and of a matrix and a vector. The matrix on the left has elements of the field. What is
 -- on the right may have values of any module over it, as elements or bytes.
-use Rattle.std.proofs.Common.{◌≡◌, ℕ, ◌+◌, ◌<◌, List, [], length, get_or, map, replicate, refl, sym, ◌∙◌, ap, ap₂, subst, arith}
+use Rattle.std.proofs.Common.{◌≡◌, ℕ, ◌<◌, List, [], length, get_or, replicate, refl, sym, ◌∙◌, ap, ap₂, subst, arith}
 use Rattle.std.specs.List.{range_with_len}
 use Rattle.std.proofs.lemmas.List.{length-map, get_or-map, ext_get_or}
 use Rattle.std.proofs.lemmas.List.Elements.{All-map}
@@ -11,7 +11,7 @@ use Rattle.sc_matrix.specs.Vector.{IsVector, add_vectors, scale_vector, dot, com
 use Rattle.sc_matrix.specs.Matrix.{Matrix, IsMatrix, row, row_count, entry, column, apply, product, matrix_sum, identity}
 use Rattle.sc_matrix.proofs.VectorLaws.{map_same, map_const, map-plus, map-map, map-add_vectors, IsVector-map, IsVector-set, IsVector-replicate, get_or-combination}
 use Rattle.sc_matrix.proofs.ModuleLaws.{value-dot, dot-add_left, dot-add_right, dot-scale_right, dot_zero_right, dot_unit}
-use Rattle.sc_matrix.proofs.Modules.{field_module, vector_module, dot-combination, IsVector-combination}
+use Rattle.sc_matrix.proofs.Modules.{vector_module, dot-combination, IsVector-combination}
 use Rattle.sc_matrix.proofs.MatrixLaws.{matrix_rows}
 
 -- two matrices with the same columns and rows

@@ -1,6 +1,6 @@
 -- What is promised of vectors and matrices, whatever the field is. Each record states laws of linear algebra over the
 -- operations of a field and of a module over it, and a public function has it as its contract.
-use Rattle.std.specs.Prelude.{◌≡◌, ◌≢◌, ◌↔◌, ℕ, ◌<◌, ◌≤◌, List, ◌++◌, length, map, replicate, slice_index_or}
+use Rattle.std.specs.Prelude.{◌≡◌, ◌≢◌, ◌↔◌, ℕ, ◌<◌, ◌≤◌, List, ◌++◌, map, replicate, slice_index_or}
 use Rattle.sc_matrix.specs.Vector.{IsVector, add_vectors, scale_vector, dot, combination, unit_vector}
 use Rattle.sc_matrix.specs.Matrix.{Matrix, IsMatrix, IsInKernel, row_count, row, entry, column, apply, product, matrix_sum, identity, transpose, swap_rows, scale_row, add_row, add_row_from, stacked}
 use Rattle.sc_matrix.specs.RowSpace.{IsSubspace, IsInRowSpace, RowsAreIn, HaveOneRowSpace}

@@ -1,6 +1,6 @@
 -- How a matrix lies in memory: the rows side by side in one list of bytes, which are the numbers of the entries.
-use Rattle.std.specs.Prelude.{◌≡◌, ℕ, suc, ◌*◌, ◌≤◌, List, [], ◌∷◌, length, map, take, drop, All, zero}
-use Rattle.sc_matrix.specs.Matrix.{Matrix, IsMatrix}
+use Rattle.std.specs.Prelude.{ℕ, suc, List, [], ◌∷◌, map, take, drop, zero}
+use Rattle.sc_matrix.specs.Matrix.{Matrix}
 
 -- a list cut into n rows of c entries
 abbrev pub cut : {A : Type 0} → ℕ → ℕ → List A → List (List A)

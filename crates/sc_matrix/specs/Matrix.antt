@@ -1,7 +1,7 @@
 -- Matrices, in the standard terms of linear algebra. The operations are parameters, as in Vector: a matrix of elements has
 -- `F.add` and `F.mul`, and rows of bytes, to which an element times another row is added, have `bit_xor` and `F.act`.
 use Rattle.std.specs.Prelude.{◌≡◌, ◌≢◌, ℕ, ◌<◌, List, [], ◌∷◌, ◌++◌, map, length, take, drop, replicate, All, slice_index_or, slice_set, swap, refl}
-use Rattle.std.specs.List.{range_with_len}
+use Rattle.std.specs.List.{range_with_len, flat_map}
 use Rattle.std.specs.Coded.{Coded, code_by, coded×, coded_ℕ, coded_list}
 use Rattle.sc_matrix.specs.Vector.{IsVector, add_vectors, scale_vector, dot, combination, unit_vector}
 
@@ -84,6 +84,10 @@ module _ {A : Type 0} where
   -- the rows a and b exchanged
   abbrev pub swap_rows : Matrix A → ℕ → ℕ → Matrix A
   swap_rows m a b = record m { rows = swap m.rows a b }
+
+  -- the numbers of columns and rows, and then those of the entries, row after row
+  abbrev pub all_numbers : (A → ℕ) → Matrix A → List ℕ
+  all_numbers number m = m.cols ∷ row_count m ∷ flat_map (map number) m.rows
 
   -- place j is the first of the vector that is not zero
   pub record IsFirstNonzero (zero : A) (v : List A) (j : ℕ) : Type 0 where

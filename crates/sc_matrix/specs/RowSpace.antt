@@ -1,5 +1,5 @@
 -- The row space of a matrix, and subspaces, in the standard terms of linear algebra.
-use Rattle.std.specs.Prelude.{◌≡◌, ℕ, List, All}
+use Rattle.std.specs.Prelude.{◌≡◌, List, All}
 use Rattle.sc_matrix.specs.Vector.{IsVector, combination}
 use Rattle.sc_matrix.specs.Matrix.{Matrix, row_count}
 

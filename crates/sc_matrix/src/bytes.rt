@@ -13,8 +13,7 @@ use sc_field::{Field, element_of, scale_add};
 // Does nothing. Its contract says what the type does: a byte is below 256.
 pub(crate) fn known(xs: &[u8])
     ensures { All (λ b. b < 2 ^ 8) xs.now }
-{
-}
+{}
 
 // Adds `c` times the `width` bytes from `from` on to those from `to` on. The two parts do not overlap.
 pub(crate) fn add_within<F: Field>(xs: &mut [u8], to: usize, c: F, from: usize, width: usize)

@@ -11,7 +11,7 @@ mod matrix;
 mod rows;
 
 pub use laws::{
-    dot_products_are_linear, kernels_are_subspaces, products_are_linear,
+    dot_products_are_linear, equality_is_exact, kernels_are_subspaces, products_are_linear,
     row_operations_keep_the_row_space, transposes_turn_products,
 };
 pub use matrix::{MAX_ENTRIES, Matrix};

@@ -1,7 +1,9 @@
 //! The matrix over a field, whose entries are kept as their numbers.
-ghost use Rattle.std.specs.Prelude.{◌≡◌, ◌≢◌, ◌+◌, ◌*◌, ◌<◌, ◌≤◌, ◌↔◌, ℕ, IsTrue, IfOk, OnOk, OnErr, MatchOption, All, length, map, replicate};
+ghost use Rattle.std.specs.Prelude.{◌≡◌, ◌≢◌, ◌+◌, ◌*◌, ◌<◌, ◌≤◌, ◌↔◌, ℕ, IsTrue, IfOk, OnOk, OnErr, MatchOption, All, length, map, replicate, bytes_eq};
+ghost use Rattle.std.specs.Cmp.{on_equiv, on_per, partial_equiv_from_equiv};
+ghost use Rattle.std.specs.Cmp.Lexicographic.{nat_list_eq_equiv};
 ghost use Rattle.sc_field.specs.Field.{IsNumber};
-ghost use Rattle.sc_matrix.specs.Matrix.{IsMatrix, IsFirstNonzero, row_count, row, entry, with_row, with_entry, with_last_row, first_rows, zero_matrix, identity, transpose, submatrix, swap_rows, scale_row, add_row, add_row_from, apply, product};
+ghost use Rattle.sc_matrix.specs.Matrix.{IsMatrix, IsFirstNonzero, all_numbers, row_count, row, entry, with_row, with_entry, with_last_row, first_rows, zero_matrix, identity, transpose, submatrix, swap_rows, scale_row, add_row, add_row_from, apply, product};
 
 use crate::bytes::dot_product;
 use crate::rows::Rows;
@@ -306,4 +308,25 @@ impl<F: Field> Matrix<F> {
         }
         Ok(out)
     }
+}
+
+/// Two matrices are equal where they have the same sizes and entries.
+impl<F: Field> PartialEq for Matrix<F> {
+    ghost eq = { λ a b. bytes_eq (all_numbers F.number a) (all_numbers F.number b) };
+
+    ghost laws = { on_per (all_numbers F.number) (partial_equiv_from_equiv nat_list_eq_equiv) };
+
+    fn eq(&self, other: &Matrix<F>) -> bool {
+        if self.numbers.width != other.numbers.width {
+            return false;
+        }
+        if self.numbers.count != other.numbers.count {
+            return false;
+        }
+        self.numbers.bytes.as_slice() == other.numbers.bytes.as_slice()
+    }
+}
+
+impl<F: Field> Eq for Matrix<F> {
+    ghost laws = { on_equiv (all_numbers F.number) nat_list_eq_equiv };
 }

@@ -38,11 +38,7 @@ impl Rows {
     }
 
     // No row yet, and room for `count` of them.
-    pub(crate) fn with_capacity(
-        alloc: Global,
-        count: usize,
-        width: usize,
-    ) -> Result<Rows, NoMemory>
+    pub(crate) fn with_capacity(alloc: Global, count: usize, width: usize) -> Result<Rows, NoMemory>
         requires { count * width ≤ most_entries }
         ensures { IfOk result (λ r. table r ≡ zero_matrix 0 0 width) }
     {
@@ -204,11 +200,7 @@ impl Rows {
             (combination 0 bit_xor F.act self.old.width (map F.element numbers.now) (table other.now).rows)) }
     {
         let start = self.start(i);
-        combine_into::<F>(
-            &mut self.bytes[start..start + self.width],
-            numbers,
-            other,
-        );
+        combine_into::<F>(&mut self.bytes[start..start + self.width], numbers, other);
     }
 
     // The product of the elements of the numbers `a` and the numbers `b`.

@@ -148,7 +148,9 @@ fn whole_rows<F: Field>(rt: &impl Abort, alloc: Global, numbers: [u8; 4]) -> Res
         &[numbers[0], numbers[1], numbers[0], numbers[1]],
     );
     assert!(rt; rows.rows() == 2 && rows.cols() == 2);
+    assert!(rt; rows != m);
     rows.copy_from(&m);
+    assert!(rt; rows == m);
     assert_matrix(rt, &rows, 2, 2, &numbers);
     rows.truncate(1);
     assert_matrix(rt, &rows, 1, 2, &numbers[..2]);
@@ -191,7 +193,13 @@ fn number_at<F: Field>(rt: &impl Abort, m: &Matrix<F>, i: usize, j: usize) -> u8
     m.get(i, j).number()
 }
 
-fn put<F: Field>(rt: &impl Abort, m: &mut Matrix<F>, i: usize, j: usize, number: u8) -> Result<(), Fail> {
+fn put<F: Field>(
+    rt: &impl Abort,
+    m: &mut Matrix<F>,
+    i: usize,
+    j: usize,
+    number: u8,
+) -> Result<(), Fail> {
     let x = element(number)?;
     assert!(rt; i < m.rows());
     assert!(rt; j < m.cols());
@@ -270,7 +278,11 @@ fn product_of_size<F: Field>(
     let p = multiply(rt, alloc, &a, &b, n)?;
     for i in 0..n {
         for j in 0..n {
-            assert_eq!(rt; number_at(rt, &p, i, j), entry_of_product(rt, &a, &b, i, j), "entry {i} {j}");
+            assert_eq!(rt;
+                number_at(rt, &p, i, j),
+                entry_of_product(rt, &a, &b, i, j),
+                "entry {i} {j}"
+            );
         }
     }
     Ok(())
@@ -396,8 +408,16 @@ fn row_operations_of_real_size(rt: HostRuntime) -> Result<(), Fail> {
     m.row_swap(4, 0);
     for j in 0..600 {
         let from = if j < 37 { 0 } else { mixed(1, j, 256) };
-        assert_eq!(rt; number_at(&rt, &m, 3, j), sum(mixed(3, j, 256), c, from), "added {j}");
-        assert_eq!(rt; number_at(&rt, &m, 2, j), sum(0, c, mixed(2, j, 256)), "multiplied {j}");
+        assert_eq!(rt;
+            number_at(&rt, &m, 3, j),
+            sum(mixed(3, j, 256), c, from),
+            "added {j}"
+        );
+        assert_eq!(rt;
+            number_at(&rt, &m, 2, j),
+            sum(0, c, mixed(2, j, 256)),
+            "multiplied {j}"
+        );
         assert_eq!(rt; number_at(&rt, &m, 0, j), mixed(4, j, 256), "exchanged {j}");
         assert_eq!(rt; number_at(&rt, &m, 4, j), mixed(0, j, 256), "exchanged {j}");
         assert_eq!(rt; number_at(&rt, &m, 1, j), mixed(1, j, 256), "kept {j}");

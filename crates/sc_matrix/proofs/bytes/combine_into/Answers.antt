@@ -1,5 +1,5 @@
-use Rattle.std.proofs.Common.{◌≡◌, ◌<◌, ℕ, List, All, [], length, get_or, map, take, bit_xor, sym, ◌∙◌, ap, ap₂, refl, arith}
-use Rattle.std.proofs.lemmas.List.{take_all, length-map, get_or-map, get_or_default}
+use Rattle.std.proofs.Common.{◌≡◌, ◌<◌, ℕ, List, length, get_or, map, bit_xor, sym, ◌∙◌, ap₂, refl, arith}
+use Rattle.std.proofs.lemmas.List.{take_all, length-map, get_or-map}
 use Rattle.sc_field.specs.Field.{IsNumber}
 use Rattle.sc_matrix.specs.Vector.{IsVector, add_vectors, scale_vector, combination}
 use Rattle.sc_matrix.specs.Rows.{table}

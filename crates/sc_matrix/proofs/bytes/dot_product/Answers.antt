@@ -1,5 +1,5 @@
-use Rattle.std.proofs.Common.{◌≡◌, ◌<◌, length, get_or, bit_xor, ap, subst, sym, ◌∙◌, ℕ, arith}
-use Rattle.sc_matrix.proofs.NumberLaws.{DotSoFar, DotSoFar-none, DotSoFar-more, DotSoFar-all}
+use Rattle.std.proofs.Common.{◌<◌, length, ◌∙◌, arith}
+use Rattle.sc_matrix.proofs.NumberLaws.{DotSoFar-none, DotSoFar-more, DotSoFar-all}
 use Rattle.sc_matrix.proofs.bytes.dot_product.Goals as goal
 
 pub loop-j-init : goal.loop-j-init

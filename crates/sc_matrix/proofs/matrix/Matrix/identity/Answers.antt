@@ -1,9 +1,8 @@
-use Rattle.std.proofs.Common.{◌≡◌, ◌<◌, ◌++◌, ℕ, List, [], length, get_or, set, map, take, drop, replicate, ap, ap₂, sym, ◌∙◌, arith}
-use Rattle.std.specs.List.{range_with_len}
+use Rattle.std.proofs.Common.{◌≡◌, ◌<◌, ◌++◌, ℕ, List, [], length, get_or, set, take, drop, replicate, ap, ap₂, sym, ◌∙◌, arith}
 use Rattle.std.proofs.lemmas.List.{length-replicate, get_or-replicate}
 use Rattle.std.proofs.lemmas.List.FromFn.{length-map-range_with_len, get_or-map-range_with_len}
 use Rattle.sc_matrix.specs.Vector.{unit_vector}
-use Rattle.sc_matrix.specs.Matrix.{Matrix, identity, zero_matrix, row, row_count, with_entry}
+use Rattle.sc_matrix.specs.Matrix.{Matrix, identity, zero_matrix, row_count, with_entry}
 use Rattle.sc_matrix.proofs.ByteSteps.{next_is, written_more, written_all, length-written}
 use Rattle.sc_matrix.proofs.matrix.Matrix.identity.Goals as goal
 

@@ -1,4 +1,3 @@
-use Rattle.std.proofs.Common.{sym, ◌∙◌, arith}
 use Rattle.sc_matrix.proofs.NumberLaws.{count_of, width_of}
 use Rattle.sc_matrix.proofs.MatrixLaws.{IsMatrix-map}
 use Rattle.sc_matrix.specs.Rows.{table}

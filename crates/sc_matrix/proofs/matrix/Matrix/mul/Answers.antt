@@ -1,5 +1,5 @@
-use Rattle.std.proofs.Common.{ap, ap₂, sym, ◌∙◌, arith}
-use Rattle.sc_matrix.specs.Matrix.{Matrix, IsMatrix, product}
+use Rattle.std.proofs.Common.{ap, ap₂, sym, ◌∙◌}
+use Rattle.sc_matrix.specs.Matrix.{product}
 use Rattle.sc_matrix.specs.Layout.{map_matrix}
 use Rattle.sc_matrix.specs.Rows.{table}
 use Rattle.sc_matrix.proofs.NumberLaws.{count_of, width_of, numbers-mul}

@@ -1,5 +1,5 @@
 use Rattle.std.proofs.Common.{ap, ◌∙◌}
-use Rattle.sc_matrix.specs.Matrix.{Matrix, first_rows}
+use Rattle.sc_matrix.specs.Matrix.{first_rows}
 use Rattle.sc_matrix.specs.Layout.{map_matrix}
 use Rattle.sc_matrix.specs.Rows.{table}
 use Rattle.sc_matrix.proofs.MatrixLaws.{IsMatrix-first_rows, map-first_rows}

@@ -1,4 +1,4 @@
-use Rattle.std.proofs.Common.{ap, sym, ◌∙◌, arith, map}
+use Rattle.std.proofs.Common.{ap, ◌∙◌, arith, map}
 use Rattle.sc_matrix.specs.Matrix.{Matrix, with_row}
 use Rattle.sc_matrix.specs.Layout.{map_matrix}
 use Rattle.sc_matrix.specs.Rows.{table}

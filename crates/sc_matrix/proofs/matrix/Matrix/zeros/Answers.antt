@@ -1,6 +1,4 @@
-use Rattle.std.proofs.Common.{ap, ◌∙◌, subst, sym}
-use Rattle.sc_field.specs.Field.{IsNumber}
-use Rattle.sc_matrix.specs.Matrix.{IsMatrix}
+use Rattle.std.proofs.Common.{ap, ◌∙◌}
 use Rattle.sc_matrix.specs.Layout.{map_matrix}
 use Rattle.sc_matrix.proofs.NumberLaws.{zero_number, element_zero}
 use Rattle.sc_matrix.proofs.MatrixLaws.{IsMatrix-zero_matrix, map-zero_matrix}

@@ -1,4 +1,4 @@
-use Rattle.std.proofs.Common.{◌≡◌, ◌+◌, ◌-◌, ℕ, List, length, map, take, drop, bit_xor, ap, ap₂, sym, ◌∙◌}
+use Rattle.std.proofs.Common.{◌≡◌, ◌+◌, ◌-◌, ℕ, List, length, map, take, drop, bit_xor, ap, ◌∙◌}
 use Rattle.sc_matrix.specs.Vector.{add_vectors, combination}
 use Rattle.sc_matrix.specs.Matrix.{Matrix, row, with_row}
 use Rattle.sc_matrix.specs.Rows.{table}

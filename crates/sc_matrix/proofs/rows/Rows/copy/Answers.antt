@@ -1,5 +1,4 @@
-use Rattle.std.proofs.Common.{ℕ, List, ap}
-use Rattle.sc_matrix.specs.Matrix.{Matrix}
+use Rattle.std.proofs.Common.{ap}
 use Rattle.sc_matrix.specs.Layout.{laid_out}
 use Rattle.sc_matrix.proofs.rows.Rows.copy.Goals as goal
 

@@ -1,4 +1,4 @@
-use Rattle.std.proofs.Common.{◌∙◌, sym, ◌+◌, arith}
+use Rattle.std.proofs.Common.{◌∙◌, ◌+◌, arith}
 use Rattle.std.proofs.lemmas.List.{get_or_default}
 use Rattle.sc_matrix.proofs.LayoutLaws.{entry_part}
 use Rattle.sc_matrix.proofs.rows.Rows.get.Goals as goal

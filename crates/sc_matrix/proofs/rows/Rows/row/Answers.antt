@@ -1,4 +1,3 @@
-use Rattle.std.proofs.Common.{◌∙◌, ap, take, drop, arith, ◌+◌, ◌-◌, List, ℕ}
 use Rattle.sc_matrix.proofs.LayoutLaws.{row_part}
 use Rattle.sc_matrix.proofs.rows.Rows.row.Goals as goal
 

@@ -1,4 +1,4 @@
-use Rattle.std.proofs.Common.{ℕ, List, ap, inl, inr, sym, arith}
+use Rattle.std.proofs.Common.{ℕ, List, ap, inl, inr, arith}
 use Rattle.std.proofs.lemmas.Bool.{cases_lt}
 use Rattle.sc_matrix.specs.Matrix.{Matrix}
 use Rattle.sc_matrix.proofs.LayoutLaws.{row_within}

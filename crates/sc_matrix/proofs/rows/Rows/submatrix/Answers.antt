@@ -1,8 +1,8 @@
-use Rattle.std.proofs.Common.{◌≡◌, ◌<◌, ◌++◌, [], ℕ, List, length, get_or, map, sym, ap, ◌∙◌, arith}
+use Rattle.std.proofs.Common.{◌≡◌, ◌<◌, ◌++◌, [], ℕ, length, get_or, map, sym, arith}
 use Rattle.std.proofs.lemmas.List.{length-map, get_or-map}
-use Rattle.sc_matrix.specs.Matrix.{Matrix, entry, submatrix}
+use Rattle.sc_matrix.specs.Matrix.{entry, submatrix}
 use Rattle.sc_matrix.specs.Rows.{table}
-use Rattle.sc_matrix.proofs.ByteSteps.{GatheredSoFar, GatheredSoFar-more, GatheredSoFar-all}
+use Rattle.sc_matrix.proofs.ByteSteps.{GatheredSoFar-more}
 use Rattle.sc_matrix.proofs.rows.Rows.submatrix.Goals as goal
 
 pub loop-i-preserved : goal.loop-i-preserved

@@ -1,4 +1,4 @@
-use Rattle.std.proofs.Common.{ℕ, List, ◌*◌, take, ap, sym, ◌∙◌, arith}
+use Rattle.std.proofs.Common.{ℕ, List, ap, sym, ◌∙◌, arith}
 use Rattle.std.proofs.lemmas.List.{take_all}
 use Rattle.sc_matrix.specs.Matrix.{Matrix}
 use Rattle.sc_matrix.specs.Layout.{cut}

@@ -1,4 +1,4 @@
-use Rattle.std.proofs.Common.{ℕ, List, ap, ◌∙◌}
+use Rattle.std.proofs.Common.{ℕ, List, ap}
 use Rattle.sc_matrix.specs.Matrix.{Matrix}
 use Rattle.sc_matrix.proofs.LayoutLaws.{row_written}
 use Rattle.sc_matrix.proofs.rows.Rows.write_row.Goals as goal
