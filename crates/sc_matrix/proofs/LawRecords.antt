@@ -6,7 +6,7 @@ use Rattle.sc_matrix.specs.Laws.{AreDotLaws, AreProductLaws, AreKernelLaws, AreR
 use Rattle.sc_matrix.proofs.ModuleLaws.{value-dot, dot-add_left, dot-scale_left, dot-add_right, dot-scale_right, dot-append, dot_unit}
 use Rattle.sc_matrix.proofs.Modules.{dot-combination}
 use Rattle.sc_matrix.proofs.ProductLaws.{entry-product, apply-product, apply-add_vectors, apply-scale_vector, product_assoc, product-sum_left, product-sum_right, apply-identity, product-identity_left}
-use Rattle.sc_matrix.proofs.TransposeLaws.{entry-transpose, transpose-transpose, transpose-product, apply-transpose}
+use Rattle.sc_matrix.proofs.TransposeLaws.{entry-transpose, transpose-transpose, transpose-product, apply-transpose, product-identity_right}
 use Rattle.sc_matrix.proofs.RowSpaceLaws.{kernel_subspace, kernel-stacked, add_row_from-zeros, row_space-kernel, kernel-one_row_space, row_space_subspace, row-in_row_space, row_space-rows_in, row_space-swap_rows, row_space-scale_row, row_space-add_row, swap_rows-swap_rows, scale_row-inverse, add_row-negative}
 
 module _ {C A : Type 0} {IsElement : C → Type 0} {zero one : C} {add sub mul : C → C → C} {inv : C → C} {IsValue : A → Type 0} {none : A} {plus : A → A → A} {times : C → A → A} (laws : IsField IsElement zero one add sub mul inv) (ml : IsModule IsElement zero one add mul IsValue none plus times) where
@@ -59,4 +59,4 @@ module _ {A : Type 0} {IsElement : A → Type 0} {zero one : A} {add sub mul : A
   }
 
   pub transpose_laws : AreTransposeLaws IsElement zero one add sub mul inv
-  transpose_laws = record { left = λ p cs m hm hc. apply-transpose laws cs m hm hc; twice = λ m hm. transpose-transpose IsElement zero m hm; of_product = transpose-product laws; entries = entry-transpose zero }
+  transpose_laws = record { identity_right = product-identity_right laws; left = λ p cs m hm hc. apply-transpose laws cs m hm hc; twice = λ m hm. transpose-transpose IsElement zero m hm; of_product = transpose-product laws; entries = entry-transpose zero }

@@ -1,15 +1,16 @@
 -- Laws of the transpose, by the entries of matrices.
-use Rattle.std.proofs.Common.{◌≡◌, ℕ, ◌<◌, List, [], length, get_or, sym, ◌∙◌, ap, ap₂, arith}
-use Rattle.std.proofs.lemmas.List.{length-map, get_or-map, ext_get_or}
+use Rattle.std.proofs.Common.{replicate, inl, inr, ◌≡◌, ℕ, ◌<◌, List, [], length, get_or, sym, ◌∙◌, ap, ap₂, arith}
+use Rattle.std.proofs.lemmas.Bool.{cases_eq}
+use Rattle.std.proofs.lemmas.List.{length-replicate, get_or-replicate, get_or-set_other, length-map, get_or-map, ext_get_or}
 use Rattle.std.proofs.lemmas.List.FromFn.{length-map-range_with_len, get_or-map-range_with_len}
 use Rattle.sc_field.specs.Field.{IsField}
-use Rattle.sc_matrix.specs.Vector.{IsVector, dot, combination}
-use Rattle.sc_matrix.specs.Matrix.{Matrix, IsMatrix, row, row_count, entry, column, apply, transpose, product}
+use Rattle.sc_matrix.specs.Vector.{unit_vector, IsVector, dot, combination}
+use Rattle.sc_matrix.specs.Matrix.{identity, Matrix, IsMatrix, row, row_count, entry, column, apply, transpose, product}
 use Rattle.sc_matrix.proofs.MatrixLaws.{matrix_rows, elements-column, IsMatrix-transpose}
 use Rattle.sc_matrix.proofs.VectorLaws.{length-combination, get_or-combination}
 use Rattle.sc_matrix.proofs.ModuleLaws.{dot_comm}
 use Rattle.sc_matrix.proofs.Modules.{field_module}
-use Rattle.sc_matrix.proofs.ProductLaws.{same_matrix, IsMatrix-product, entry-product}
+use Rattle.sc_matrix.proofs.ProductLaws.{product-identity_left, IsMatrix-identity, same_matrix, IsMatrix-product, entry-product}
 
 module _ {A : Type 0} where
   -- two matrices of one size with the same entries are equal
@@ -90,3 +91,38 @@ module _ {A : Type 0} {IsElement : A → Type 0} {zero one : A} {add sub mul : A
       get_or-combination zero add mul m.cols cs m.rows j (matrix_rows hm) (omega arith)
       ∙ dot_comm laws cs (column zero m j) hc (elements-column zero m j hm (omega arith))
       ∙ sym (get_or-map (λ (r : List A). dot zero add mul r cs) (transpose zero m).rows j [] zero (omega arith) ∙ ap (λ (r : List A). dot zero add mul r cs) (row-transpose zero m j (omega arith))))
+
+  -- ---- the identity matrix on the right
+  unit_turned : (n i j : ℕ) → i < n → j < n → get_or (unit_vector zero one n i) j zero ≡ get_or (unit_vector zero one n j) i zero
+  unit_turned n i j h k =
+      let l = length-replicate n zero in
+      elim (cases_eq i j) [
+        | inl same ↦ ap₂ (λ (a b : ℕ). get_or (unit_vector zero one n a) b zero) same (sym same)
+        | inr apart ↦
+            get_or-set_other (replicate n zero) i j one zero (λ e. apart (sym e)) ∙ get_or-replicate n j zero zero k
+            ∙ sym (get_or-set_other (replicate n zero) j i one zero apart ∙ get_or-replicate n i zero zero h)
+      ]
+
+  pub transpose-identity : (n : ℕ) → transpose zero (identity zero one n) ≡ identity zero one n
+  transpose-identity n =
+      let hi = IsMatrix-identity laws n in
+      let l : row_count (identity zero one n) ≡ n = length-map-range_with_len (unit_vector zero one n) 0 n in
+      let t = row_count-transpose zero (identity zero one n) in
+      let unit : (i : ℕ) → i < n → row (identity zero one n) i ≡ unit_vector zero one n i = λ i h. get_or-map-range_with_len (unit_vector zero one n) 0 n i i [] h (omega arith) in
+      same_entries IsElement zero (transpose zero (identity zero one n)) (identity zero one n) (IsMatrix-transpose zero (identity zero one n) hi) hi l (t ∙ sym l)
+      (λ i j h k.
+      entry-transpose zero (identity zero one n) j i (omega arith) (omega arith) ∙ ap (λ (r : List A). get_or r i zero) (unit j (omega arith))
+      ∙ unit_turned n j i (omega arith) (omega arith) ∙ ap (λ (r : List A). get_or r j zero) (sym (unit i (omega arith))))
+
+  pub product-identity_right : (a : Matrix A) → IsMatrix IsElement a → product zero add mul a (identity zero one a.cols) ≡ a
+  product-identity_right a ha =
+      let n = a.cols in
+      let hi = IsMatrix-identity laws n in
+      let l : row_count (identity zero one n) ≡ n = length-map-range_with_len (unit_vector zero one n) 0 n in
+      let p = product zero add mul a (identity zero one n) in
+      let turned : transpose zero p ≡ transpose zero a =
+      transpose-product a (identity zero one n) ha hi (sym l) ∙ ap (λ (t : Matrix A). product zero add mul t (transpose zero a)) (transpose-identity n)
+      ∙ ap (λ (k : ℕ). product zero add mul (identity zero one k) (transpose zero a)) (sym (row_count-transpose zero a))
+      ∙ product-identity_left laws (field_module laws) (transpose zero a) (IsMatrix-transpose zero a ha) in
+      sym (transpose-transpose IsElement zero p (IsMatrix-product laws (field_module laws) a (identity zero one n) ha hi)) ∙ ap (transpose zero) turned
+      ∙ transpose-transpose IsElement zero a ha

@@ -74,6 +74,7 @@ module _ {A : Type 0} (IsElement : A → Type 0) (zero one : A) (add sub mul : A
   -- The transpose undoes itself and turns products round. A vector times a matrix is the transpose times the vector.
   pub record AreTransposeLaws : Type 0 where
     pub left : (p : ℕ) (cs : List A) (m : Matrix A) → IsMatrix IsElement m → IsVector IsElement p cs → combination zero add mul m.cols cs m.rows ≡ apply zero add mul (transpose zero m) cs
+    pub identity_right : (m : Matrix A) → IsMatrix IsElement m → product zero add mul m (identity zero one m.cols) ≡ m
     pub twice : (m : Matrix A) → IsMatrix IsElement m → transpose zero (transpose zero m) ≡ m
     pub of_product : (a b : Matrix A) → IsMatrix IsElement a → IsMatrix IsElement b → a.cols ≡ row_count b
         → transpose zero (product zero add mul a b) ≡ product zero add mul (transpose zero b) (transpose zero a)
