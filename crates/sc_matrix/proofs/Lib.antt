@@ -1,27 +1,31 @@
--- The laws that crates above want, each in the file named. Where a law takes the laws of the field first, these
--- are `g.met.F.Field.field`; that a matrix is well formed comes from `rows` and `cols` (their clause `shape`).
+-- The laws that crates above want. Those that count are contracts of the functions of src/laws.rt, by the records of
+-- LawRecords. A law takes the laws of the field first, `g.met.F.Field.field`, and then those of a module:
+-- `field_module` of them for elements, `byte_module g.met.F.Field.action` for bytes, and `vector_module` of a module for
+-- the vectors of n of its values. That a matrix is well formed comes from `known` or `rows` (clause `shape`).
 --
---   VectorLaws     sums of vectors: add_vectors_comm, add_vectors_assoc, add_vectors_zero; scalars: scale-add_vectors,
---                  scale_by_sum, scale-scale, scale_by_zero, scale_zero_vector; dot products: dot_comm, dot-add_left,
---                  dot-add_right, dot-scale_left, dot-scale_right, dot_zero_left, dot_zero_right, dot-combination;
---                  elements and lengths of all of these; entries: get_or-add_vectors, get_or-scale_vector
---   ProductLaws    apply-product (two matrices and a vector), product_assoc, apply-add_vectors, apply-scale_vector,
---                  apply_zero_vector, elements-apply, IsMatrix-product, entry-product (row times column), and
---                  combinations, which are linear: combination-add_vectors, combination-scale_vector, get_or-combination
---   SumLaws        product-sum_left and product-sum_right: the product distributes over the sum of two matrices;
---                  combination-of_sums: combinations are linear in their vectors too
---   TransposeLaws  entry-transpose, transpose-transpose, transpose-product, row-transpose, column-transpose,
---                  IsMatrix-transpose; same_entries: two matrices with the same sizes and entries are equal
---   KernelLaws     kernel_rows (the kernel by the rows), kernel-swap_rows, kernel-scale_row, kernel-add_row
+--   VectorLaws     vectors under any operations: IsVector of what is made of vectors, their lengths and entries, maps
+--   ModuleLaws     modules, and dot products, which are linear on both sides: dot-add_left, dot-scale_left, dot-add_right,
+--                  dot-scale_right, dot-append, dot_more, dot_unit, linear-dot (what a linear map makes of one), dot_comm
+--   Modules        field_module, byte_module, vector_module; dot-combination, IsVector-combination
+--   MatrixLaws     matrices of entries of one kind, and what a map of the entries makes of each operation
+--   ProductLaws    apply-product, product_assoc, product-sum_left and _right, apply-identity, product-identity_left,
+--                  entry-product, IsMatrix-product
+--   TransposeLaws  entry-transpose, transpose-transpose, transpose-product, apply-transpose; same_entries: two matrices with
+--                  the same sizes and entries are equal
+--   RowSpaceLaws   the row space and the kernel are subspaces; each row operation keeps both and is undone by another;
+--                  kernel_rows, row_space-kernel, kernel-one_row_space, kernel-stacked, add_row_from-zeros
+--   NumberLaws     rows of numbers: number_module, elements-add, elements-times, element-zero_iff
 --
--- The other files say how the storage and the loops of this crate keep up with these definitions.
+-- The other files say how the rows in memory keep up with these definitions.
 pub mod VectorLaws
+pub mod ModuleLaws
+pub mod Modules
+pub mod MatrixLaws
 pub mod ProductLaws
-pub mod SumLaws
 pub mod TransposeLaws
-pub mod KernelLaws
-pub mod CutLaws
-pub mod WriteSteps
-pub mod RowWrites
-pub mod ProductSteps
-pub mod ShapeSteps
+pub mod RowSpaceLaws
+pub mod LawRecords
+pub mod NumberLaws
+pub mod EqualLaws
+pub mod LayoutLaws
+pub mod ByteSteps

@@ -1,150 +1,123 @@
--- Laws of the products of matrices, and of a matrix and a vector.
-use Rattle.std.proofs.Common.{◌≡◌, ℕ, zero as none, suc, ◌<◌, List, [], ◌∷◌, length, get_or, map, replicate, All, refl, sym, ◌∙◌, ap, ap₂, arith}
-use Rattle.std.proofs.lemmas.List.{length-replicate, get_or-map, get_or-replicate}
-use Rattle.std.proofs.lemmas.List.Elements.{All-head, All-tail, All-map}
+-- Laws of the products of matrices, and of a matrix and a vector. The matrix on the left has elements of the field. What is
+-- on the right may have values of any module over it, as elements or bytes.
+use Rattle.std.proofs.Common.{◌≡◌, ℕ, ◌<◌, List, [], length, get_or, replicate, refl, sym, ◌∙◌, ap, ap₂, subst, arith}
+use Rattle.std.specs.List.{range_with_len}
+use Rattle.std.proofs.lemmas.List.{length-map, get_or-map, ext_get_or}
+use Rattle.std.proofs.lemmas.List.Elements.{All-map}
+use Rattle.std.proofs.lemmas.List.FromFn.{length-map-range_with_len, get_or-map-range_with_len}
 use Rattle.sc_field.specs.Field.{IsField}
-use Rattle.sc_matrix.specs.Vector.{add_vectors, scale_vector, dot, combination}
-use Rattle.sc_matrix.specs.Matrix.{Matrix, IsMatrix, row, row_count, entry, column, apply, product}
-use Rattle.sc_matrix.proofs.VectorLaws.{length-combination, length-scale_vector, get_or-add_vectors, get_or-scale_vector, elements-add_vectors, elements-scale_vector, elements-combination, elements_zero, element-dot, add_vectors_comm, add_vectors_assoc, add_vectors_zero, scale-add_vectors, scale-scale, scale_by_sum, scale_by_zero, scale_zero_vector, dot-add_right, dot-scale_right, dot_zero_right, dot-combination}
-use Rattle.sc_matrix.proofs.ProductSteps.{same_matrix}
+use Rattle.sc_matrix.specs.Module.{IsModule}
+use Rattle.sc_matrix.specs.Vector.{IsVector, add_vectors, scale_vector, dot, combination, unit_vector}
+use Rattle.sc_matrix.specs.Matrix.{Matrix, IsMatrix, row, row_count, entry, column, apply, product, matrix_sum, identity}
+use Rattle.sc_matrix.proofs.VectorLaws.{map_same, map_const, map-plus, map-map, map-add_vectors, IsVector-map, IsVector-set, IsVector-replicate, get_or-combination}
+use Rattle.sc_matrix.proofs.ModuleLaws.{value-dot, dot-add_left, dot-add_right, dot-scale_right, dot_zero_right, dot_unit}
+use Rattle.sc_matrix.proofs.Modules.{vector_module, dot-combination, IsVector-combination}
+use Rattle.sc_matrix.proofs.MatrixLaws.{matrix_rows}
 
-module _ {A : Type 0} {IsElement : A → Type 0} {zero one : A} {add sub mul : A → A → A} {inv : A → A} (laws : IsField IsElement zero one add sub mul inv) where
+-- two matrices with the same columns and rows
+pub same_matrix : {A : Type 0} (a b : Matrix A) → a.cols ≡ b.cols → a.rows ≡ b.rows → a ≡ b
+same_matrix {A = A} a b e f = ap₂ (λ (c : ℕ) (r : List (List A)). let m : Matrix A = record { cols = c; rows = r } in m) e f
+
+-- The entry of a product at row i and column j is the dot product of row i and column j, whatever the operations are.
+pub entry-product : {C A : Type 0} {P : A → Type 0} (zero : A) (add : A → A → A) (mul : C → A → A) (a : Matrix C) (b : Matrix A) (i j : ℕ) → IsMatrix P b → i < row_count a → j < b.cols
+    → entry zero (product zero add mul a b) i j ≡ dot zero add mul (row a i) (column zero b j)
+entry-product {C = C} {A = A} zero add mul a b i j hb h k =
+    ap (λ (r : List A). get_or r j zero) (get_or-map (λ (r : List C). combination zero add mul b.cols r b.rows) a.rows i [] [] h)
+    ∙ get_or-combination zero add mul b.cols (row a i) b.rows j (matrix_rows hb) k
+
+module _ {C A : Type 0} {IsElement : C → Type 0} {zero one : C} {add sub mul : C → C → C} {inv : C → C} {IsValue : A → Type 0} {none : A} {plus : A → A → A} {times : C → A → A} (laws : IsField IsElement zero one add sub mul inv) (ml : IsModule IsElement zero one add mul IsValue none plus times) where
   -- ---- a matrix and a vector
   -- the product of matrices is the one by which the vector is multiplied twice
-  pub apply-product : (a b : Matrix A) (v : List A) → IsMatrix IsElement a → IsMatrix IsElement b → All IsElement v → apply zero add mul (product zero add mul a b) v ≡ apply zero add mul a (apply zero add mul b v)
-  apply-product a b v ha hb hv = go a.rows ha.elements where
-    go : (rs : List (List A)) → All (λ r. All IsElement r) rs → map (λ (r : List A). dot zero add mul r v) (map (λ (r : List A). combination zero add mul b.cols r b.rows) rs) ≡ map (λ (r : List A). dot zero add mul r (map (λ (s : List A). dot zero add mul s v) b.rows)) rs
-    go [] h = refl
-    go (r ∷ rs) h =
-        ap₂ (λ (x : A) (xs : List A). x ∷ xs)
-        (dot-combination laws b.cols r b.rows v (All-head (λ (q : List A). All IsElement q) r rs h) hb.elements hb.widths hv)
-        (go rs (All-tail (λ (q : List A). All IsElement q) r rs h))
+  pub apply-product : {q : ℕ} (a b : Matrix C) (v : List A) → IsMatrix IsElement a → IsMatrix IsElement b → IsVector IsValue q v
+      → apply none plus times (product zero add mul a b) v ≡ apply none plus times a (apply none plus times b v)
+  apply-product a b v ha hb hv =
+      map-map (λ (r : List C). dot none plus times r v) (λ (r : List C). combination zero add mul b.cols r b.rows) a.rows
+      ∙ map_same (λ (r : List C). dot none plus times (combination zero add mul b.cols r b.rows) v) (λ (r : List C). dot none plus times r (apply none plus times b v)) a.rows
+      (λ r hr. dot-combination laws ml b.cols r b.rows v hr (matrix_rows hb) hv) (matrix_rows ha)
 
-  pub apply-add_vectors : (m : Matrix A) (u v : List A) → IsMatrix IsElement m → length u ≡ length v → All IsElement u → All IsElement v → apply zero add mul m (add_vectors add u v) ≡ add_vectors add (apply zero add mul m u) (apply zero add mul m v)
-  apply-add_vectors m u v hm e hu hv = go m.rows hm.elements where
-    go : (rs : List (List A)) → All (λ r. All IsElement r) rs → map (λ (r : List A). dot zero add mul r (add_vectors add u v)) rs ≡ add_vectors add (map (λ (r : List A). dot zero add mul r u) rs) (map (λ (r : List A). dot zero add mul r v) rs)
-    go [] h = refl
-    go (r ∷ rs) h =
-        ap₂ (λ (x : A) (xs : List A). x ∷ xs)
-        (dot-add_right laws r u v e (All-head (λ (q : List A). All IsElement q) r rs h) hu hv)
-        (go rs (All-tail (λ (q : List A). All IsElement q) r rs h))
+  pub apply-add_vectors : {q : ℕ} (m : Matrix C) (u v : List A) → IsMatrix IsElement m → IsVector IsValue q u → IsVector IsValue q v
+      → apply none plus times m (add_vectors plus u v) ≡ add_vectors plus (apply none plus times m u) (apply none plus times m v)
+  apply-add_vectors m u v hm hu hv =
+      map-plus plus (λ (r : List C). dot none plus times r (add_vectors plus u v)) (λ (r : List C). dot none plus times r u) (λ (r : List C). dot none plus times r v) m.rows
+      (λ r hr. dot-add_right laws ml r u v hr hu hv) (matrix_rows hm)
 
-  pub apply-scale_vector : (m : Matrix A) (c : A) (v : List A) → IsMatrix IsElement m → IsElement c → All IsElement v → apply zero add mul m (scale_vector mul c v) ≡ scale_vector mul c (apply zero add mul m v)
-  apply-scale_vector m c v hm hc hv = go m.rows hm.elements where
-    go : (rs : List (List A)) → All (λ r. All IsElement r) rs → map (λ (r : List A). dot zero add mul r (scale_vector mul c v)) rs ≡ scale_vector mul c (map (λ (r : List A). dot zero add mul r v) rs)
-    go [] h = refl
-    go (r ∷ rs) h =
-        ap₂ (λ (x : A) (xs : List A). x ∷ xs)
-        (dot-scale_right laws c r v hc (All-head (λ (q : List A). All IsElement q) r rs h) hv)
-        (go rs (All-tail (λ (q : List A). All IsElement q) r rs h))
+  pub apply-scale_vector : {q : ℕ} (m : Matrix C) (c : C) (v : List A) → IsMatrix IsElement m → IsElement c → IsVector IsValue q v
+      → apply none plus times m (scale_vector times c v) ≡ scale_vector times c (apply none plus times m v)
+  apply-scale_vector m c v hm hc hv =
+      map_same (λ (r : List C). dot none plus times r (scale_vector times c v)) (λ (r : List C). times c (dot none plus times r v)) m.rows
+      (λ r hr. dot-scale_right laws ml c r v hc hr hv) (matrix_rows hm)
+      ∙ sym (map-map (times c) (λ (r : List C). dot none plus times r v) m.rows)
 
-  pub apply_zero_vector : (m : Matrix A) (n : ℕ) → IsMatrix IsElement m → apply zero add mul m (replicate n zero) ≡ replicate (row_count m) zero
-  apply_zero_vector m n hm = go m.rows hm.elements where
-    go : (rs : List (List A)) → All (λ r. All IsElement r) rs → map (λ (r : List A). dot zero add mul r (replicate n zero)) rs ≡ replicate (length rs) zero
-    go [] h = refl
-    go (r ∷ rs) h =
-        ap₂ (λ (x : A) (xs : List A). x ∷ xs)
-        (dot_zero_right laws n r (All-head (λ (q : List A). All IsElement q) r rs h))
-        (go rs (All-tail (λ (q : List A). All IsElement q) r rs h))
+  pub apply_zero_vector : (m : Matrix C) (n : ℕ) → IsMatrix IsElement m → apply none plus times m (replicate n none) ≡ replicate (row_count m) none
+  apply_zero_vector m n hm = map_const (λ (r : List C). dot none plus times r (replicate n none)) none m.rows (λ r hr. dot_zero_right laws ml n r hr) (matrix_rows hm)
 
-  pub elements-apply : (m : Matrix A) (v : List A) → IsMatrix IsElement m → All IsElement v → All IsElement (apply zero add mul m v)
-  elements-apply m v hm hv =
-      All-map IsElement (λ (r : List A). dot zero add mul r v) m.rows (λ k d h. element-dot laws _ v (hm.elements k d h) hv)
+  pub values-apply : {q : ℕ} (m : Matrix C) (v : List A) → IsMatrix IsElement m → IsVector IsValue q v → IsVector IsValue (row_count m) (apply none plus times m v)
+  values-apply m v hm hv = IsVector-map (λ (r : List C). dot none plus times r v) m.rows (λ r hr. value-dot laws ml r v hr hv) (matrix_rows hm)
 
-  -- ---- combinations are linear in their coefficients
-  pub add_vectors_four : (a b c d : List A) → length b ≡ length c → All IsElement a → All IsElement b → All IsElement c → All IsElement d → add_vectors add (add_vectors add a b) (add_vectors add c d) ≡ add_vectors add (add_vectors add a c) (add_vectors add b d)
-  add_vectors_four a b c d e ha hb hc hd =
-      add_vectors_assoc laws a b (add_vectors add c d) ha hb (elements-add_vectors laws c d hc hd)
-      ∙ ap (add_vectors add a)
-      (sym (add_vectors_assoc laws b c d hb hc hd) ∙ ap (λ (x : List A). add_vectors add x d) (add_vectors_comm laws b c e hb hc)
-      ∙ add_vectors_assoc laws c b d hc hb hd)
-      ∙ sym (add_vectors_assoc laws a c (add_vectors add b d) ha hc (elements-add_vectors laws b d hb hd))
+  -- ---- products of matrices
+  pub IsMatrix-product : (a : Matrix C) (b : Matrix A) → IsMatrix IsElement a → IsMatrix IsValue b → IsMatrix IsValue (product none plus times a b)
+  IsMatrix-product a b ha hb = record {
+    vectors =
+        All-map (IsVector IsValue b.cols) (λ (r : List C). combination none plus times b.cols r b.rows) a.rows
+        (λ k d h. IsVector-combination laws ml b.cols _ b.rows (ha.vectors k d h) (matrix_rows hb));
+  }
 
-  pub combination-add_vectors : (n : ℕ) (cs ds : List A) (vs : List (List A)) → length cs ≡ length ds → All IsElement cs → All IsElement ds → All (λ v. All IsElement v) vs → All (λ v. length v ≡ n) vs → combination zero add mul n (add_vectors add cs ds) vs ≡ add_vectors add (combination zero add mul n cs vs) (combination zero add mul n ds vs)
-  combination-add_vectors n [] [] vs e hc hd hv hw = sym (add_vectors_zero laws n (replicate n zero) (length-replicate n zero) (elements_zero laws n))
-  combination-add_vectors n [] (d ∷ ds) vs e hc hd hv hw = absurd (omega arith)
-  combination-add_vectors n (c ∷ cs) [] vs e hc hd hv hw = absurd (omega arith)
-  combination-add_vectors n (c ∷ cs) (d ∷ ds) [] e hc hd hv hw = sym (add_vectors_zero laws n (replicate n zero) (length-replicate n zero) (elements_zero laws n))
-  combination-add_vectors n (c ∷ cs) (d ∷ ds) (v ∷ vs) e hc hd hv hw =
-      let pc = All-head IsElement c cs hc in
-      let pd = All-head IsElement d ds hd in
-      let pv = All-head (λ (r : List A). All IsElement r) v vs hv in
-      let tc = All-tail IsElement c cs hc in
-      let td = All-tail IsElement d ds hd in
-      let tv = All-tail (λ (r : List A). All IsElement r) v vs hv in
-      let tw = All-tail (λ (r : List A). length r ≡ n) v vs hw in
-      let wide : length (scale_vector mul d v) ≡ length (combination zero add mul n cs vs) =
-      length-scale_vector mul d v ∙ All-head (λ (r : List A). length r ≡ n) v vs hw ∙ sym (length-combination zero add mul n cs vs tw) in
-      ap₂ (add_vectors add) (scale_by_sum laws c d v pc pd pv) (combination-add_vectors n cs ds vs (omega arith) tc td tv tw)
-      ∙ add_vectors_four (scale_vector mul c v) (scale_vector mul d v) (combination zero add mul n cs vs) (combination zero add mul n ds vs) wide
-      (elements-scale_vector laws c v pc pv) (elements-scale_vector laws d v pd pv) (elements-combination laws n cs vs tc tv) (elements-combination laws n ds vs td tv)
+  pub product_assoc : (a b : Matrix C) (c : Matrix A) → IsMatrix IsElement a → IsMatrix IsElement b → IsMatrix IsValue c
+      → product none plus times (product zero add mul a b) c ≡ product none plus times a (product none plus times b c)
+  product_assoc a b c ha hb hc =
+      same_matrix (product none plus times (product zero add mul a b) c) (product none plus times a (product none plus times b c)) refl
+      (map-map (λ (r : List C). combination none plus times c.cols r c.rows) (λ (r : List C). combination zero add mul b.cols r b.rows) a.rows
+      ∙ map_same (λ (r : List C). combination none plus times c.cols (combination zero add mul b.cols r b.rows) c.rows)
+      (λ (r : List C). combination none plus times c.cols r (product none plus times b c).rows) a.rows
+      (λ r hr. dot-combination laws (vector_module ml c.cols) b.cols r b.rows c.rows hr (matrix_rows hb) (matrix_rows hc)) (matrix_rows ha))
 
-  pub combination-scale_vector : (n : ℕ) (k : A) (cs : List A) (vs : List (List A)) → IsElement k → All IsElement cs → All (λ v. All IsElement v) vs → combination zero add mul n (scale_vector mul k cs) vs ≡ scale_vector mul k (combination zero add mul n cs vs)
-  combination-scale_vector n k [] vs hk hc hv = sym (scale_zero_vector laws k n hk)
-  combination-scale_vector n k (c ∷ cs) [] hk hc hv = sym (scale_zero_vector laws k n hk)
-  combination-scale_vector n k (c ∷ cs) (v ∷ vs) hk hc hv =
-      let pc = All-head IsElement c cs hc in
-      let pv = All-head (λ (r : List A). All IsElement r) v vs hv in
-      let tc = All-tail IsElement c cs hc in
-      let tv = All-tail (λ (r : List A). All IsElement r) v vs hv in
-      ap₂ (add_vectors add) (sym (scale-scale laws k c v hk pc pv)) (combination-scale_vector n k cs vs hk tc tv)
-      ∙ sym (scale-add_vectors laws k (scale_vector mul c v) (combination zero add mul n cs vs) hk (elements-scale_vector laws c v pc pv) (elements-combination laws n cs vs tc tv))
+  -- (a + b) c = a c + b c
+  pub product-sum_left : (a b : Matrix C) (c : Matrix A) → IsMatrix IsElement a → IsMatrix IsElement b → IsMatrix IsValue c → a.cols ≡ b.cols
+      → product none plus times (matrix_sum add a b) c ≡ matrix_sum plus (product none plus times a c) (product none plus times b c)
+  product-sum_left a b c ha hb hc e =
+      same_matrix (product none plus times (matrix_sum add a b) c) (matrix_sum plus (product none plus times a c) (product none plus times b c)) refl
+      (map-add_vectors (add_vectors add) (add_vectors plus) (λ (r : List C). combination none plus times c.cols r c.rows) a.rows b.rows
+      (λ r s hr hs. dot-add_left laws (vector_module ml c.cols) r s c.rows hr hs (matrix_rows hc)) (matrix_rows ha)
+      (subst (λ (n : ℕ). IsVector (IsVector IsElement n) (row_count b) b.rows) (sym e) (matrix_rows hb)))
 
-  pub combination_by_zeros : (n m : ℕ) (vs : List (List A)) → All (λ v. All IsElement v) vs → All (λ v. length v ≡ n) vs → combination zero add mul n (replicate m zero) vs ≡ replicate n zero
-  combination_by_zeros n none vs hv hw = refl
-  combination_by_zeros n (suc m) [] hv hw = refl
-  combination_by_zeros n (suc m) (v ∷ vs) hv hw =
-      ap₂ (add_vectors add)
-      (scale_by_zero laws v (All-head (λ (r : List A). All IsElement r) v vs hv) ∙ ap (λ k. replicate k zero) (All-head (λ (r : List A). length r ≡ n) v vs hw))
-      (combination_by_zeros n m vs (All-tail (λ (r : List A). All IsElement r) v vs hv) (All-tail (λ (r : List A). length r ≡ n) v vs hw))
-      ∙ add_vectors_zero laws n (replicate n zero) (length-replicate n zero) (elements_zero laws n)
+  -- a (b + c) = a b + a c
+  pub product-sum_right : (a : Matrix C) (b c : Matrix A) → IsMatrix IsElement a → IsMatrix IsValue b → IsMatrix IsValue c → b.cols ≡ c.cols → row_count b ≡ row_count c
+      → product none plus times a (matrix_sum plus b c) ≡ matrix_sum plus (product none plus times a b) (product none plus times a c)
+  product-sum_right a b c ha hb hc e n =
+      let rows : IsVector (IsVector IsValue b.cols) (row_count b) c.rows = subst (λ (k : ℕ). IsVector (IsVector IsValue k) (row_count b) c.rows) (sym e) (record { width = sym n; entries = hc.vectors }) in
+      same_matrix (product none plus times a (matrix_sum plus b c)) (matrix_sum plus (product none plus times a b) (product none plus times a c)) refl
+      (map-plus (add_vectors plus) (λ (r : List C). combination none plus times b.cols r (add_vectors (add_vectors plus) b.rows c.rows))
+      (λ (r : List C). combination none plus times b.cols r b.rows) (λ (r : List C). combination none plus times c.cols r c.rows) a.rows
+      (λ r hr. dot-add_right laws (vector_module ml b.cols) r b.rows c.rows hr (matrix_rows hb) rows
+      ∙ ap (λ (k : ℕ). add_vectors plus (combination none plus times b.cols r b.rows) (combination none plus times k r c.rows)) e) (matrix_rows ha))
 
-  -- a combination whose coefficients are a combination
-  pub combination-combination : (n p : ℕ) (cs : List A) (vs ws : List (List A)) → All IsElement cs → All (λ v. All IsElement v) vs → All (λ v. length v ≡ n) vs → All (λ w. All IsElement w) ws → All (λ w. length w ≡ p) ws → combination zero add mul p (combination zero add mul n cs vs) ws ≡ combination zero add mul p cs (map (λ v. combination zero add mul p v ws) vs)
-  combination-combination n p [] vs ws hc hv hw ew lw = combination_by_zeros p n ws ew lw
-  combination-combination n p (c ∷ cs) [] ws hc hv hw ew lw = combination_by_zeros p n ws ew lw
-  combination-combination n p (c ∷ cs) (v ∷ vs) ws hc hv hw ew lw =
-      let pc = All-head IsElement c cs hc in
-      let pv = All-head (λ (r : List A). All IsElement r) v vs hv in
-      let tc = All-tail IsElement c cs hc in
-      let tv = All-tail (λ (r : List A). All IsElement r) v vs hv in
-      let tw = All-tail (λ (r : List A). length r ≡ n) v vs hw in
-      let wide : length (scale_vector mul c v) ≡ length (combination zero add mul n cs vs) =
-      length-scale_vector mul c v ∙ All-head (λ (r : List A). length r ≡ n) v vs hw ∙ sym (length-combination zero add mul n cs vs tw) in
-      combination-add_vectors p (scale_vector mul c v) (combination zero add mul n cs vs) ws wide (elements-scale_vector laws c v pc pv) (elements-combination laws n cs vs tc tv) ew lw
-      ∙ ap₂ (add_vectors add) (combination-scale_vector p c v ws pc pv ew) (combination-combination n p cs vs ws tc tv tw ew lw)
+  -- ---- the identity matrix
+  pub apply-identity : (n : ℕ) (v : List A) → IsVector IsValue n v → apply none plus times (identity zero one n) v ≡ v
+  apply-identity n v hv =
+      let w = hv.width in
+      let l : length (identity zero one n).rows ≡ n = length-map-range_with_len (unit_vector zero one n) 0 n in
+      let k = length-map (identity zero one n).rows (λ (r : List C). dot none plus times r v) in
+      ext_get_or none (apply none plus times (identity zero one n) v) v (omega arith)
+      (λ i h.
+      get_or-map (λ (r : List C). dot none plus times r v) (identity zero one n).rows i [] none (omega arith)
+      ∙ ap (λ (r : List C). dot none plus times r v) (get_or-map-range_with_len (unit_vector zero one n) 0 n i i [] (omega arith) (omega arith))
+      ∙ dot_unit laws ml n i v hv (omega arith))
 
-  -- ---- matrices
-  pub IsMatrix-product : (a b : Matrix A) → IsMatrix IsElement a → IsMatrix IsElement b → IsMatrix IsElement (product zero add mul a b)
-  IsMatrix-product a b ha hb =
-      record {
-        widths = All-map (λ (r : List A). length r ≡ b.cols) (λ (r : List A). combination zero add mul b.cols r b.rows) a.rows (λ k d h. length-combination zero add mul b.cols _ b.rows hb.widths);
-        elements = All-map (λ (r : List A). All IsElement r) (λ (r : List A). combination zero add mul b.cols r b.rows) a.rows (λ k d h. elements-combination laws b.cols _ b.rows (ha.elements k d h) hb.elements);
-      }
+  pub product-identity_left : (b : Matrix A) → IsMatrix IsValue b → product none plus times (identity zero one (row_count b)) b ≡ b
+  product-identity_left b hb =
+      let n = row_count b in
+      let l : length (identity zero one n).rows ≡ n = length-map-range_with_len (unit_vector zero one n) 0 n in
+      let k = length-map (identity zero one n).rows (λ (r : List C). combination none plus times b.cols r b.rows) in
+      same_matrix (product none plus times (identity zero one n) b) b refl
+      (ext_get_or (replicate b.cols none) (product none plus times (identity zero one n) b).rows b.rows (omega arith)
+      (λ i h.
+      get_or-map (λ (r : List C). combination none plus times b.cols r b.rows) (identity zero one n).rows i [] (replicate b.cols none) (omega arith)
+      ∙ ap (λ (r : List C). combination none plus times b.cols r b.rows) (get_or-map-range_with_len (unit_vector zero one n) 0 n i i [] (omega arith) (omega arith))
+      ∙ dot_unit laws (vector_module ml b.cols) n i b.rows (matrix_rows hb) (omega arith)))
 
-  pub product_assoc : (a b c : Matrix A) → IsMatrix IsElement a → IsMatrix IsElement b → IsMatrix IsElement c → product zero add mul (product zero add mul a b) c ≡ product zero add mul a (product zero add mul b c)
-  product_assoc a b c ha hb hc = same_matrix (product zero add mul (product zero add mul a b) c) (product zero add mul a (product zero add mul b c)) refl (go a.rows ha.elements) where
-    go : (rs : List (List A)) → All (λ r. All IsElement r) rs → map (λ (r : List A). combination zero add mul c.cols r c.rows) (map (λ (r : List A). combination zero add mul b.cols r b.rows) rs) ≡ map (λ (r : List A). combination zero add mul c.cols r (map (λ (s : List A). combination zero add mul c.cols s c.rows) b.rows)) rs
-    go [] h = refl
-    go (r ∷ rs) h =
-        ap₂ (λ (x : List A) (xs : List (List A)). x ∷ xs)
-        (combination-combination b.cols c.cols r b.rows c.rows (All-head (λ (q : List A). All IsElement q) r rs h) hb.elements hb.widths hc.elements hc.widths)
-        (go rs (All-tail (λ (q : List A). All IsElement q) r rs h))
+module _ {A : Type 0} {IsElement : A → Type 0} {zero one : A} {add sub mul : A → A → A} {inv : A → A} (laws : IsField IsElement zero one add sub mul inv) where
+  pub IsVector-unit : (n i : ℕ) → IsVector IsElement n (unit_vector zero one n i)
+  IsVector-unit n i = IsVector-set (replicate n zero) i one (IsVector-replicate n zero laws.zero_element) laws.one_element
 
-  -- an entry of a combination
-  pub get_or-combination : (n : ℕ) (cs : List A) (vs : List (List A)) (j : ℕ) → All (λ v. length v ≡ n) vs → j < n → get_or (combination zero add mul n cs vs) j zero ≡ dot zero add mul cs (map (λ (v : List A). get_or v j zero) vs)
-  get_or-combination n [] vs j hw h = get_or-replicate n j zero zero h
-  get_or-combination n (c ∷ cs) [] j hw h = get_or-replicate n j zero zero h
-  get_or-combination n (c ∷ cs) (v ∷ vs) j hw h =
-      let w = All-head (λ (r : List A). length r ≡ n) v vs hw in
-      let tw = All-tail (λ (r : List A). length r ≡ n) v vs hw in
-      let l = length-scale_vector mul c v in
-      let same : length (scale_vector mul c v) ≡ length (combination zero add mul n cs vs) = l ∙ w ∙ sym (length-combination zero add mul n cs vs tw) in
-      get_or-add_vectors add (scale_vector mul c v) (combination zero add mul n cs vs) j zero same (omega arith)
-      ∙ ap₂ add (get_or-scale_vector mul c v j zero (omega arith)) (get_or-combination n cs vs j tw h)
-
-  -- The entry of a product at row i and column j is the dot product of row i and column j.
-  pub entry-product : (a b : Matrix A) (i j : ℕ) → IsMatrix IsElement b → i < row_count a → j < b.cols → entry zero (product zero add mul a b) i j ≡ dot zero add mul (row a i) (column zero b j)
-  entry-product a b i j hb h k =
-      ap (λ (r : List A). get_or r j zero) (get_or-map (λ (r : List A). combination zero add mul b.cols r b.rows) a.rows i [] [] h)
-      ∙ get_or-combination b.cols (row a i) b.rows j hb.widths k
+  pub IsMatrix-identity : (n : ℕ) → IsMatrix IsElement (identity zero one n)
+  IsMatrix-identity n = record { vectors = All-map (IsVector IsElement n) (unit_vector zero one n) (range_with_len 0 n) (λ k d h. IsVector-unit n _) }

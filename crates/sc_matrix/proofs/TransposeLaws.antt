@@ -1,15 +1,16 @@
 -- Laws of the transpose, by the entries of matrices.
-use Rattle.std.proofs.Common.{◌≡◌, ℕ, ◌+◌, ◌<◌, List, [], length, get_or, All, sym, ◌∙◌, ap, ap₂, arith}
-use Rattle.std.proofs.lemmas.List.{length-map, get_or-map, ext_get_or}
-use Rattle.std.proofs.lemmas.List.Elements.{All-map}
-use Rattle.std.proofs.lemmas.List.FromFn.{length-map-range_with_len, get_or-map-range_with_len, length-range_with_len, get_or-range_with_len}
-use Rattle.std.specs.List.{range_with_len}
+use Rattle.std.proofs.Common.{replicate, inl, inr, ◌≡◌, ℕ, ◌<◌, List, [], length, get_or, sym, ◌∙◌, ap, ap₂, arith}
+use Rattle.std.proofs.lemmas.Bool.{cases_eq}
+use Rattle.std.proofs.lemmas.List.{length-replicate, get_or-replicate, get_or-set_other, length-map, get_or-map, ext_get_or}
+use Rattle.std.proofs.lemmas.List.FromFn.{length-map-range_with_len, get_or-map-range_with_len}
 use Rattle.sc_field.specs.Field.{IsField}
-use Rattle.sc_matrix.specs.Vector.{dot}
-use Rattle.sc_matrix.specs.Matrix.{Matrix, IsMatrix, row, row_count, entry, column, transpose, product}
-use Rattle.sc_matrix.proofs.VectorLaws.{dot_comm}
-use Rattle.sc_matrix.proofs.ProductSteps.{same_matrix}
-use Rattle.sc_matrix.proofs.ProductLaws.{IsMatrix-product, entry-product}
+use Rattle.sc_matrix.specs.Vector.{unit_vector, IsVector, dot, combination}
+use Rattle.sc_matrix.specs.Matrix.{identity, Matrix, IsMatrix, row, row_count, entry, column, apply, transpose, product}
+use Rattle.sc_matrix.proofs.MatrixLaws.{matrix_rows, elements-column, IsMatrix-transpose}
+use Rattle.sc_matrix.proofs.VectorLaws.{length-combination, get_or-combination}
+use Rattle.sc_matrix.proofs.ModuleLaws.{dot_comm}
+use Rattle.sc_matrix.proofs.Modules.{field_module}
+use Rattle.sc_matrix.proofs.ProductLaws.{product-identity_left, IsMatrix-identity, same_matrix, IsMatrix-product, entry-product}
 
 module _ {A : Type 0} where
   -- two matrices of one size with the same entries are equal
@@ -18,8 +19,8 @@ module _ {A : Type 0} where
       same_matrix a b e
       (ext_get_or [] a.rows b.rows f
       (λ i h.
-      let wa : length (row a i) ≡ a.cols = ha.widths i [] h in
-      let wb : length (row b i) ≡ b.cols = hb.widths i [] (omega arith) in
+      let wa : length (row a i) ≡ a.cols = (ha.vectors i [] h).width in
+      let wb : length (row b i) ≡ b.cols = (hb.vectors i [] (omega arith)).width in
       ext_get_or zero (row a i) (row b i) (wa ∙ e ∙ sym wb) (λ j k. same i j h (omega arith))))
 
   pub row_count-transpose : (zero : A) (m : Matrix A) → row_count (transpose zero m) ≡ m.cols
@@ -33,27 +34,12 @@ module _ {A : Type 0} where
   entry-transpose zero m i j h k =
       ap (λ (r : List A). get_or r i zero) (row-transpose zero m j k) ∙ get_or-map (λ (r : List A). get_or r j zero) m.rows i [] zero h
 
-  pub elements-column : (P : A → Type 0) (zero : A) (m : Matrix A) (j : ℕ) → IsMatrix P m → j < m.cols → All P (column zero m j)
-  elements-column P zero m j hm h =
-      All-map P (λ (r : List A). get_or r j zero) m.rows
-      (λ k d l. let w : length (get_or m.rows k d) ≡ m.cols = hm.widths k d l in hm.elements k d l j zero (omega arith))
-
-  pub IsMatrix-transpose : (P : A → Type 0) (zero : A) (m : Matrix A) → IsMatrix P m → IsMatrix P (transpose zero m)
-  IsMatrix-transpose P zero m hm =
-      let n = length-range_with_len 0 m.cols in
-      record {
-        widths = All-map (λ (r : List A). length r ≡ row_count m) (column zero m) (range_with_len 0 m.cols) (λ k d h. length-map m.rows (λ (r : List A). get_or r (get_or (range_with_len 0 m.cols) k d) zero));
-        elements = All-map (λ (r : List A). All P r) (column zero m) (range_with_len 0 m.cols)
-            (λ k d h. let e : get_or (range_with_len 0 m.cols) k d ≡ 0 + k = get_or-range_with_len 0 m.cols k d (omega arith) in
-            elements-column P zero m (get_or (range_with_len 0 m.cols) k d) hm (omega arith));
-      }
-
   pub transpose-transpose : (P : A → Type 0) (zero : A) (m : Matrix A) → IsMatrix P m → transpose zero (transpose zero m) ≡ m
   transpose-transpose P zero m hm =
       let n = row_count-transpose zero m in
-      let ht = IsMatrix-transpose P zero m hm in
+      let ht = IsMatrix-transpose zero m hm in
       let n' = row_count-transpose zero (transpose zero m) in
-      same_entries P zero (transpose zero (transpose zero m)) m (IsMatrix-transpose P zero (transpose zero m) ht) hm n n'
+      same_entries P zero (transpose zero (transpose zero m)) m (IsMatrix-transpose zero (transpose zero m) ht) hm n n'
       (λ i j h k.
       entry-transpose zero (transpose zero m) j i (omega arith) (omega arith)
       ∙ entry-transpose zero m i j (omega arith) (omega arith))
@@ -63,7 +49,7 @@ module _ {A : Type 0} where
   column-transpose P zero m i hm h =
       let n = row_count-transpose zero m in
       let l = length-map (transpose zero m).rows (λ (r : List A). get_or r i zero) in
-      let w : length (row m i) ≡ m.cols = hm.widths i [] h in
+      let w : length (row m i) ≡ m.cols = (hm.vectors i [] h).width in
       ext_get_or zero (column zero (transpose zero m) i) (row m i) (l ∙ n ∙ sym w)
       (λ j k.
       get_or-map (λ (r : List A). get_or r i zero) (transpose zero m).rows j [] zero (omega arith)
@@ -73,23 +59,70 @@ module _ {A : Type 0} {IsElement : A → Type 0} {zero one : A} {add sub mul : A
   -- The transpose of a product is the product of the transposes in the other order.
   pub transpose-product : (a b : Matrix A) → IsMatrix IsElement a → IsMatrix IsElement b → a.cols ≡ row_count b → transpose zero (product zero add mul a b) ≡ product zero add mul (transpose zero b) (transpose zero a)
   transpose-product a b ha hb e =
-      let ta = IsMatrix-transpose IsElement zero a ha in
-      let tb = IsMatrix-transpose IsElement zero b hb in
-      let p = IsMatrix-product laws a b ha hb in
+      let ta = IsMatrix-transpose zero a ha in
+      let tb = IsMatrix-transpose zero b hb in
+      let p = IsMatrix-product laws (field_module laws) a b ha hb in
       let na = row_count-transpose zero a in
       let nb = row_count-transpose zero b in
       let np = row_count-transpose zero (product zero add mul a b) in
       let rows : row_count (product zero add mul a b) ≡ row_count a = length-map a.rows _ in
       let rows' : row_count (product zero add mul (transpose zero b) (transpose zero a)) ≡ row_count (transpose zero b) = length-map (transpose zero b).rows _ in
       same_entries IsElement zero (transpose zero (product zero add mul a b)) (product zero add mul (transpose zero b) (transpose zero a))
-      (IsMatrix-transpose IsElement zero (product zero add mul a b) p) (IsMatrix-product laws (transpose zero b) (transpose zero a) tb ta) rows (np ∙ sym (rows' ∙ nb))
+      (IsMatrix-transpose zero (product zero add mul a b) p) (IsMatrix-product laws (field_module laws) (transpose zero b) (transpose zero a) tb ta) rows (np ∙ sym (rows' ∙ nb))
       (λ j i h k.
       let hi : i < row_count a = omega arith in
       let hj : j < b.cols = omega arith in
       let i_in : i < row_count (product zero add mul a b) = omega arith in
       let j_in : j < row_count (transpose zero b) = omega arith in
       entry-transpose zero (product zero add mul a b) i j i_in hj
-      ∙ entry-product laws a b i j hb hi hj
-      ∙ dot_comm laws (row a i) (column zero b j) (ha.elements i [] hi) (elements-column IsElement zero b j hb hj)
+      ∙ entry-product zero add mul a b i j hb hi hj
+      ∙ dot_comm laws (row a i) (column zero b j) (ha.vectors i [] hi) (elements-column zero b j hb hj)
       ∙ ap₂ (dot zero add mul) (sym (row-transpose zero b j hj)) (sym (column-transpose IsElement zero a i ha hi))
-      ∙ sym (entry-product laws (transpose zero b) (transpose zero a) j i ta j_in hi))
+      ∙ sym (entry-product zero add mul (transpose zero b) (transpose zero a) j i ta j_in hi))
+
+  -- a vector times a matrix is the transpose times the vector
+  pub apply-transpose : {p : ℕ} (cs : List A) (m : Matrix A) → IsMatrix IsElement m → IsVector IsElement p cs → combination zero add mul m.cols cs m.rows ≡ apply zero add mul (transpose zero m) cs
+  apply-transpose cs m hm hc =
+      let l = length-combination zero add mul m.cols cs m.rows (matrix_rows hm) in
+      let n = row_count-transpose zero m in
+      let k = length-map (transpose zero m).rows (λ (r : List A). dot zero add mul r cs) in
+      ext_get_or zero (combination zero add mul m.cols cs m.rows) (apply zero add mul (transpose zero m) cs) (omega arith)
+      (λ j h.
+      get_or-combination zero add mul m.cols cs m.rows j (matrix_rows hm) (omega arith)
+      ∙ dot_comm laws cs (column zero m j) hc (elements-column zero m j hm (omega arith))
+      ∙ sym (get_or-map (λ (r : List A). dot zero add mul r cs) (transpose zero m).rows j [] zero (omega arith) ∙ ap (λ (r : List A). dot zero add mul r cs) (row-transpose zero m j (omega arith))))
+
+  -- ---- the identity matrix on the right
+  unit_turned : (n i j : ℕ) → i < n → j < n → get_or (unit_vector zero one n i) j zero ≡ get_or (unit_vector zero one n j) i zero
+  unit_turned n i j h k =
+      let l = length-replicate n zero in
+      elim (cases_eq i j) [
+        | inl same ↦ ap₂ (λ (a b : ℕ). get_or (unit_vector zero one n a) b zero) same (sym same)
+        | inr apart ↦
+            get_or-set_other (replicate n zero) i j one zero (λ e. apart (sym e)) ∙ get_or-replicate n j zero zero k
+            ∙ sym (get_or-set_other (replicate n zero) j i one zero apart ∙ get_or-replicate n i zero zero h)
+      ]
+
+  pub transpose-identity : (n : ℕ) → transpose zero (identity zero one n) ≡ identity zero one n
+  transpose-identity n =
+      let hi = IsMatrix-identity laws n in
+      let l : row_count (identity zero one n) ≡ n = length-map-range_with_len (unit_vector zero one n) 0 n in
+      let t = row_count-transpose zero (identity zero one n) in
+      let unit : (i : ℕ) → i < n → row (identity zero one n) i ≡ unit_vector zero one n i = λ i h. get_or-map-range_with_len (unit_vector zero one n) 0 n i i [] h (omega arith) in
+      same_entries IsElement zero (transpose zero (identity zero one n)) (identity zero one n) (IsMatrix-transpose zero (identity zero one n) hi) hi l (t ∙ sym l)
+      (λ i j h k.
+      entry-transpose zero (identity zero one n) j i (omega arith) (omega arith) ∙ ap (λ (r : List A). get_or r i zero) (unit j (omega arith))
+      ∙ unit_turned n j i (omega arith) (omega arith) ∙ ap (λ (r : List A). get_or r j zero) (sym (unit i (omega arith))))
+
+  pub product-identity_right : (a : Matrix A) → IsMatrix IsElement a → product zero add mul a (identity zero one a.cols) ≡ a
+  product-identity_right a ha =
+      let n = a.cols in
+      let hi = IsMatrix-identity laws n in
+      let l : row_count (identity zero one n) ≡ n = length-map-range_with_len (unit_vector zero one n) 0 n in
+      let p = product zero add mul a (identity zero one n) in
+      let turned : transpose zero p ≡ transpose zero a =
+      transpose-product a (identity zero one n) ha hi (sym l) ∙ ap (λ (t : Matrix A). product zero add mul t (transpose zero a)) (transpose-identity n)
+      ∙ ap (λ (k : ℕ). product zero add mul (identity zero one k) (transpose zero a)) (sym (row_count-transpose zero a))
+      ∙ product-identity_left laws (field_module laws) (transpose zero a) (IsMatrix-transpose zero a ha) in
+      sym (transpose-transpose IsElement zero p (IsMatrix-product laws (field_module laws) a (identity zero one n) ha hi)) ∙ ap (transpose zero) turned
+      ∙ transpose-transpose IsElement zero a ha

@@ -1,6 +1,6 @@
--- How a matrix lies in memory: the rows side by side in one list.
-use Rattle.std.specs.Prelude.{◌≡◌, ℕ, suc, ◌*◌, ◌≤◌, List, [], ◌∷◌, length, take, drop, All, zero}
-use Rattle.sc_matrix.specs.Matrix.{Matrix, most_entries}
+-- How a matrix lies in memory: the rows side by side in one list of bytes, which are the numbers of the entries.
+use Rattle.std.specs.Prelude.{ℕ, suc, List, [], ◌∷◌, map, take, drop, zero}
+use Rattle.sc_matrix.specs.Matrix.{Matrix}
 
 -- a list cut into n rows of c entries
 abbrev pub cut : {A : Type 0} → ℕ → ℕ → List A → List (List A)
@@ -11,8 +11,6 @@ cut (suc n) c xs = take c xs ∷ cut n c (drop c xs)
 abbrev pub laid_out : {A : Type 0} → ℕ → ℕ → List A → Matrix A
 laid_out n c xs = record { cols = c; rows = cut n c xs }
 
--- The list has the entries of n rows and c columns and nothing else. Each is an element of the field.
-pub record IsLaidOut {A : Type 0} (IsElement : A → Type 0) (n c : ℕ) (xs : List A) : Type 0 where
-  pub count : length xs ≡ n * c
-  pub elements : All IsElement xs
-  pub small : n * c ≤ most_entries
+-- the matrix with f of each entry
+abbrev pub map_matrix : {A B : Type 0} → (A → B) → Matrix A → Matrix B
+map_matrix f m = record { cols = m.cols; rows = map (map f) m.rows }

@@ -5,13 +5,16 @@
 //! is the only refusal.
 #![tactic(auto)]
 
-mod products;
-mod row_operations;
-mod shapes;
-mod store;
-mod vectors;
+mod bytes;
+mod laws;
+mod matrix;
+mod rows;
 
-pub use store::{MAX_ENTRIES, Matrix};
+pub use laws::{
+    dot_products_are_linear, equality_is_exact, kernels_are_subspaces, products_are_linear,
+    row_operations_keep_the_row_space, transposes_turn_products,
+};
+pub use matrix::{MAX_ENTRIES, Matrix};
 
 #[cfg(test)]
 mod tests;

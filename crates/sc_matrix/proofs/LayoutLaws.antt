@@ -1,0 +1,161 @@
+-- How the rows of a list that is cut into rows follow from the list.
+use Rattle.std.proofs.Common.{◌≡◌, ℕ, zero, suc, ◌+◌, ◌*◌, ◌<◌, ◌≤◌, List, [], ◌∷◌, ◌++◌, length, get_or, take, drop, set, replicate, All, refl, sym, ◌∙◌, ap, ◌-◌, ◌≢◌, inl, inr, arith, Vec}
+use Rattle.std.proofs.lemmas.List.{drop-drop, length-take-le, length-drop, take-append-le, drop-append-le, drop-take, take-replicate, drop-replicate, ext_get_or, get_or-set_same, get_or-set_other, length-set, take_all, drop-set-lt, drop-set-add, take-set-le, take-take, nil_from_length, get_or-take, get_or-drop, length-append, with_items_is}
+use Rattle.std.proofs.lemmas.List.Elements.{All-take, All-drop}
+use Rattle.std.proofs.lemmas.Nat.{row_fits}
+use Rattle.std.proofs.lemmas.Slice.{drop-put_mid, take-put_mid_below, between-put_mid}
+use Rattle.std.proofs.lemmas.Bool.{cases_order}
+use Rattle.std.proofs.Math.Seq.{take-set-lt}
+use borrow.Rule.Slice.PartMut.{put_mid}
+use Rattle.sc_matrix.specs.Matrix.{entry}
+use Rattle.sc_matrix.specs.Vector.{IsVector}
+use Rattle.std.specs.Vec.{with_items}
+use Rattle.sc_matrix.specs.Layout.{cut, laid_out}
+
+-- the row i lies within the list
+pub row_within : (n c i : ℕ) → i < n → i * c + c ≤ n * c
+row_within n c i h = row_fits i c n c h (omega arith)
+
+module _ {A : Type 0} where
+  pub length-cut : (n c : ℕ) (xs : List A) → length (cut n c xs) ≡ n
+  length-cut zero c xs = refl
+  length-cut (suc n) c xs = ap suc (length-cut n c (drop c xs))
+
+  -- row i of the cut
+  pub get_or-cut : (n c : ℕ) (xs : List A) (i : ℕ) (d : List A) → i < n → get_or (cut n c xs) i d ≡ take c (drop (i * c) xs)
+  get_or-cut zero c xs i d h = absurd (omega arith)
+  get_or-cut (suc n) c xs zero d h = let e : 0 * c ≡ 0 = omega arith in rw e refl
+  get_or-cut (suc n) c xs (suc i) d h =
+      let e : suc i * c ≡ c + i * c = omega arith in
+      let s : take c (drop (i * c) (drop c xs)) ≡ take c (drop (suc i * c) xs) = rw e (rw drop-drop refl) in
+      get_or-cut n c (drop c xs) i d (omega arith) ∙ s
+
+  -- each row has c entries
+  pub vectors-cut : (P : A → Type 0) (n c : ℕ) (xs : List A) → length xs ≡ n * c → All P xs → All (IsVector P c) (cut n c xs)
+  vectors-cut P n c xs e a k d h =
+      let g = length-cut n c xs in
+      let w = row_within n c k (omega arith) in
+      rw (get_or-cut n c xs k d (omega arith))
+      record {
+        width = length-take-le c (drop (k * c) xs) (rw length-drop (omega arith));
+        entries = All-take P c (drop (k * c) xs) (All-drop P (k * c) xs a);
+      }
+
+  pub length-row : (n c : ℕ) (xs : List A) (i : ℕ) → length xs ≡ n * c → i < n → length (get_or (cut n c xs) i []) ≡ c
+  length-row n c xs i e h =
+      let w = row_within n c i h in
+      ap length (get_or-cut n c xs i [] h) ∙ length-take-le c (drop (i * c) xs) (rw length-drop (omega arith))
+
+  -- one row more at the end
+  pub cut-push : (n c : ℕ) (xs ys : List A) → length xs ≡ n * c → length ys ≡ c → cut (n + 1) c (xs ++ ys) ≡ cut n c xs ++ ys ∷ []
+  cut-push zero c xs ys e f =
+      rw (nil_from_length xs (omega arith)) (ap (λ (r : List A). r ∷ []) (take_all c ys (omega arith)))
+  cut-push (suc n) c xs ys e f =
+      let m : suc n + 1 ≡ suc (n + 1) = omega arith in
+      let t : take c (xs ++ ys) ≡ take c xs = take-append-le c xs ys (omega arith) in
+      let d : drop c (xs ++ ys) ≡ drop c xs ++ ys = drop-append-le c xs ys (omega arith) in
+      let l : length (drop c xs) ≡ n * c = rw length-drop (omega arith) in
+      rw (m, t, d) (ap (λ (r : List (List A)). take c xs ∷ r) (cut-push n c (drop c xs) ys l f))
+
+  pub cut-replicate : (n c : ℕ) (z : A) → cut n c (replicate (n * c) z) ≡ replicate n (replicate c z)
+  cut-replicate zero c z = refl
+  cut-replicate (suc n) c z =
+      let t : take c (replicate (suc n * c) z) ≡ replicate c z = take-replicate c (suc n * c) z (omega arith) in
+      let m : suc n * c - c ≡ n * c = omega arith in
+      let d : drop c (replicate (suc n * c) z) ≡ replicate (n * c) z = drop-replicate c (suc n * c) z ∙ ap (λ k. replicate k z) m in
+      rw (t, d, cut-replicate n c z) refl
+
+  -- row k of two lists that agree up to its end
+  same_row : (c p : ℕ) (xs ys : List A) → take (p + c) xs ≡ take (p + c) ys → take c (drop p xs) ≡ take c (drop p ys)
+  same_row c p xs ys e = sym (drop-take p c xs) ∙ ap (drop p) e ∙ drop-take p c ys
+
+  -- two lists cut into rows, where ys has row r at a and the rows of xs before and behind
+  cut_differs : (n c : ℕ) (xs ys : List A) (a : ℕ) (r : List A) → a < n → take (a * c) ys ≡ take (a * c) xs → take c (drop (a * c) ys) ≡ r → drop (a * c + c) ys ≡ drop (a * c + c) xs → cut n c ys ≡ set (cut n c xs) a r
+  cut_differs n c xs ys a r h below here above =
+      let g = length-cut n c ys in
+      let g' = length-cut n c xs in
+      ext_get_or [] _ _ (g ∙ sym (length-set (cut n c xs) a r ∙ g'))
+      (λ k q. elim (cases_order k a) [
+        | inl same ↦
+            rw same (rw (get_or-cut n c ys a [] h, here) (sym (get_or-set_same (cut n c xs) a r [] (omega arith))))
+        | inr other ↦ elim other [
+          | inl lt ↦
+              (let ne : k ≢ a = omega arith in
+              rw (get_or-cut n c ys k [] (omega arith), get_or-set_other (cut n c xs) a k r [] ne, get_or-cut n c xs k [] (omega arith))
+              (same_row c (k * c) ys xs
+              (sym (take-take (k * c + c) (a * c) ys (row_within a c k lt)) ∙ ap (take (k * c + c)) below
+              ∙ take-take (k * c + c) (a * c) xs (row_within a c k lt))))
+          | inr gt ↦
+              (let ne : k ≢ a = omega arith in
+              let w : a * c + c ≤ k * c = row_within k c a gt in
+              let e : (a * c + c) + (k * c - (a * c + c)) ≡ k * c = omega arith in
+              rw (get_or-cut n c ys k [] (omega arith), get_or-set_other (cut n c xs) a k r [] ne, get_or-cut n c xs k [] (omega arith))
+              (ap (take c)
+              (ap (λ m. drop m ys) (sym e) ∙ sym (drop-drop (k * c - (a * c + c)) (a * c + c) ys)
+              ∙ ap (drop (k * c - (a * c + c))) above ∙ drop-drop (k * c - (a * c + c)) (a * c + c) xs
+              ∙ ap (λ m. drop m xs) e)))
+        ]
+      ])
+
+  -- a write to row a
+  pub cut-put_mid : (n c : ℕ) (xs : List A) (a : ℕ) (ys : List A) → length xs ≡ n * c → a < n → length ys ≡ c → cut n c (put_mid (a * c) c xs ys) ≡ set (cut n c xs) a ys
+  cut-put_mid n c xs a ys e h f =
+      let w = row_within n c a h in
+      let m : (a * c + c) - a * c ≡ c = omega arith in
+      let b : take ((a * c + c) - a * c) (drop (a * c) (put_mid (a * c) c xs ys)) ≡ ys =
+      between-put_mid (a * c) c xs ys (a * c + c) (omega arith) (f ∙ sym m) in
+      cut_differs n c xs (put_mid (a * c) c xs ys) a ys h
+      (take-put_mid_below (a * c) c xs ys (a * c) (omega arith) (omega arith))
+      (rw m at b)
+      (drop-put_mid (a * c) c xs ys (a * c + c) (omega arith) (omega arith) f)
+
+  -- a write to the entry at row i and column j
+  pub cut-set : (n c : ℕ) (xs : List A) (i j : ℕ) (v : A) → i < n → j < c → cut n c (set xs (i * c + j) v) ≡ set (cut n c xs) i (set (get_or (cut n c xs) i []) j v)
+  cut-set n c xs i j v h k =
+      cut_differs n c xs (set xs (i * c + j) v) i (set (get_or (cut n c xs) i []) j v) h
+      (take-set-le (i * c) xs (i * c + j) v (omega arith))
+      (rw (drop-set-add (i * c) xs j v, take-set-lt c (drop (i * c) xs) j v k, get_or-cut n c xs i [] h) refl)
+      (drop-set-lt (i * c + c) xs (i * c + j) v (omega arith))
+
+  -- the first k rows
+  pub cut-take : (n k c : ℕ) (xs : List A) → k ≤ n → cut k c (take (k * c) xs) ≡ take k (cut n c xs)
+  cut-take n zero c xs h = refl
+  cut-take zero (suc k) c xs h = absurd (omega arith)
+  cut-take (suc n) (suc k) c xs h =
+      let e : suc k * c ≡ c + k * c = omega arith in
+      let first : take c (take (suc k * c) xs) ≡ take c xs = take-take c (suc k * c) xs (omega arith) in
+      let rest : drop c (take (suc k * c) xs) ≡ take (k * c) (drop c xs) = rw e (drop-take c (k * c) xs) in
+      rw (first, rest) (ap (λ (r : List (List A)). take c xs ∷ r) (cut-take n k c (drop c xs) (omega arith)))
+
+  -- ---- where the code has the first place s of row i
+  -- the row as the part of the list from its first entry to its last
+  pub row_part : (n c : ℕ) (xs : List A) (i s : ℕ) → s ≡ i * c → i < n → take ((s + c) - s) (drop s xs) ≡ get_or (cut n c xs) i []
+  row_part n c xs i s e h = let k : (s + c) - s ≡ c = omega arith in rw (k, e, get_or-cut n c xs i [] h) refl
+
+  pub entry_part : (n c : ℕ) (xs : List A) (z : A) (i j s : ℕ) → s ≡ i * c → i < n → j < c → get_or xs (s + j) z ≡ entry z (laid_out n c xs) i j
+  entry_part n c xs z i j s e h k =
+      rw (e, get_or-cut n c xs i [] h, get_or-take c (drop (i * c) xs) j z k) (sym (get_or-drop (i * c) xs j z))
+
+  pub entry_written : (n c : ℕ) (xs : List A) (i j s : ℕ) (x : A) → s ≡ i * c → i < n → j < c → cut n c (set xs (s + j) x) ≡ set (cut n c xs) i (set (get_or (cut n c xs) i []) j x)
+  entry_written n c xs i j s x e h k = rw e (cut-set n c xs i j x h k)
+
+  pub length-put_mid : (a k : ℕ) (xs ys : List A) → a + k ≤ length xs → length ys ≡ k → length (put_mid a k xs ys) ≡ length xs
+  length-put_mid a k xs ys h e =
+      let t : length (take a xs) ≡ a = length-take-le a xs (omega arith) in
+      let d : length (drop k (drop a xs)) ≡ length xs - a - k = length-drop k (drop a xs) ∙ ap (λ m. m - k) (length-drop a xs) in
+      let f : length (put_mid a k xs ys) ≡ length (take a xs) + (length ys + length (drop k (drop a xs))) =
+      length-append (take a xs) (ys ++ drop k (drop a xs)) ∙ ap (λ m. length (take a xs) + m) (length-append ys (drop k (drop a xs))) in
+      omega arith
+
+  -- the items of a `Vec` whose slice has been written
+  pub items_written : {Z : Type 0} (v : Vec A Z) (zs : List A) → length zs ≡ length v.items → (with_items v zs).items ≡ zs
+  items_written v zs l = with_items_is v zs (l ∙ sym v.ok.0)
+
+  -- a write of the whole row
+  pub row_written : {Z : Type 0} (n c : ℕ) (v : Vec A Z) (xs : List A) (i s : ℕ) (ys : List A) → xs ≡ v.items → length v.items ≡ n * c → s ≡ i * c → i < n → length ys ≡ c
+      → cut n c (with_items v (put_mid s ((s + c) - s) xs ys)).items ≡ set (cut n c v.items) i ys
+  row_written n c v xs i s ys same l e h w =
+      let k : (s + c) - s ≡ c = omega arith in
+      let f = row_within n c i h in
+      let m : length (put_mid (i * c) c v.items ys) ≡ length v.items = length-put_mid (i * c) c v.items ys (omega arith) w in
+      rw (k, e, same, items_written v (put_mid (i * c) c v.items ys) m) (cut-put_mid n c v.items i ys l h w)

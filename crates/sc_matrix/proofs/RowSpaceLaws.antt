@@ -1,0 +1,318 @@
+-- The row space and the kernel: both are subspaces, a vector of the kernel has a zero dot product with each of the row
+-- space, and each row operation keeps both, since another undoes it. A vector of the kernel may have values of any module.
+use Rattle.std.proofs.Common.{◌≡◌, ◌≢◌, ◌↔◌, ℕ, ◌+◌, ◌-◌, ◌<◌, ◌≤◌, List, [], ◌∷◌, ◌++◌, length, get_or, set, swap, take, drop, replicate, All, subst, inl, inr, refl, sym, ◌∙◌, ap, ap₂, arith}
+use Rattle.std.proofs.lemmas.Bool.{cases_eq, cases_lt}
+use Rattle.std.proofs.lemmas.List.{length-map, length-set, length-replicate, get_or-map, get_or-replicate, get_or-set_same, get_or-set_other, set-set, set-get_or, ext_get_or, get_or_default, length-append, get_or_append_left, get_or-append-add, get_or-append_right, get_or-take, get_or-drop, length-take-le, length-drop}
+use Rattle.std.proofs.lemmas.List.Elements.{All-set, All-append}
+use Rattle.std.proofs.lemmas.List.Edits.{swap_is, length-swap}
+use Rattle.sc_field.specs.Field.{IsField}
+use Rattle.sc_field.specs.FieldLemmas.{mul_zero}
+use Rattle.sc_matrix.specs.Module.{IsModule}
+use Rattle.sc_matrix.specs.Vector.{IsVector, add_vectors, scale_vector, dot, combination, unit_vector}
+use Rattle.sc_matrix.specs.Matrix.{Matrix, IsMatrix, IsInKernel, row, row_count, with_row, apply, swap_rows, scale_row, add_row, add_row_from, entry, stacked}
+use Rattle.sc_matrix.specs.RowSpace.{IsSubspace, IsInRowSpace, RowsAreIn, HaveOneRowSpace}
+use Rattle.sc_matrix.proofs.VectorLaws.{head, tail, vector_of, entry_at, length-add_vectors, get_or-add_vectors, length-scale_vector, get_or-scale_vector}
+use Rattle.sc_matrix.proofs.ModuleLaws.{dot_zero_left, dot_zero_right, dot-add_left, dot-scale_left, dot_unit, inv_times, plus_times_back, times_none}
+use Rattle.sc_matrix.proofs.Modules.{field_module, vector_module, dot-combination}
+use Rattle.sc_matrix.proofs.MatrixLaws.{matrix_rows, IsMatrix-with_row, IsMatrix-swap_rows}
+use Rattle.sc_matrix.proofs.ProductLaws.{same_matrix, IsVector-unit, apply-add_vectors, apply-scale_vector, apply_zero_vector}
+
+-- ---- two entries exchanged, and exchanged again
+module _ {X : Type 0} (xs : List X) (a b : ℕ) (d : X) (ha : a < length xs) (hb : b < length xs) where
+  second_is : get_or (swap xs a b) b d ≡ get_or xs a d
+  second_is =
+      let n = length-set xs a (get_or xs b d) in
+      ap (λ (ys : List X). get_or ys b d) (sym (swap_is xs a b d ha hb)) ∙ get_or-set_same (set xs a (get_or xs b d)) b (get_or xs a d) d (omega arith)
+
+  rest_is : (k : ℕ) → k ≢ b → k ≢ a → get_or (swap xs a b) k d ≡ get_or xs k d
+  rest_is k nb na =
+      ap (λ (ys : List X). get_or ys k d) (sym (swap_is xs a b d ha hb)) ∙ get_or-set_other (set xs a (get_or xs b d)) b k (get_or xs a d) d nb
+      ∙ get_or-set_other xs a k (get_or xs b d) d na
+
+  first_is : get_or (swap xs a b) a d ≡ get_or xs b d
+  first_is =
+      elim (cases_eq a b) [
+        | inl same ↦ subst (λ (k : ℕ). get_or (swap xs a b) k d ≡ get_or xs b d) (sym same) (second_is ∙ ap (λ (k : ℕ). get_or xs k d) same)
+        | inr apart ↦
+            ap (λ (ys : List X). get_or ys a d) (sym (swap_is xs a b d ha hb)) ∙ get_or-set_other (set xs a (get_or xs b d)) b a (get_or xs a d) d apart
+            ∙ get_or-set_same xs a (get_or xs b d) d ha
+      ]
+
+pub swap-swap : {X : Type 0} (xs : List X) (a b : ℕ) (d : X) → a < length xs → b < length xs → swap (swap xs a b) a b ≡ xs
+swap-swap xs a b d ha hb =
+    let n = length-swap xs a b in
+    let n' = length-swap (swap xs a b) a b in
+    ext_get_or d (swap (swap xs a b) a b) xs (omega arith)
+    (λ k h.
+    elim (cases_eq k b) [
+      | inl same ↦ subst (λ (j : ℕ). get_or (swap (swap xs a b) a b) j d ≡ get_or xs j d) (sym same) (second_is (swap xs a b) a b d (omega arith) (omega arith) ∙ first_is xs a b d ha hb)
+      | inr nb ↦
+          elim (cases_eq k a) [
+            | inl same ↦ subst (λ (j : ℕ). get_or (swap (swap xs a b) a b) j d ≡ get_or xs j d) (sym same) (first_is (swap xs a b) a b d (omega arith) (omega arith) ∙ second_is xs a b d ha hb)
+            | inr na ↦ rest_is (swap xs a b) a b d (omega arith) (omega arith) k nb na ∙ rest_is xs a b d ha hb k nb na
+          ]
+    ])
+
+-- ---- subspaces
+-- a subspace has the dot products of elements and its values
+pub dot_in : {C A : Type 0} {IsElement : C → Type 0} {none : A} {plus : A → A → A} {times : C → A → A} {Has : A → Type 0} → IsSubspace IsElement none plus times Has
+    → (cs : List C) (vs : List A) {p q : ℕ} → IsVector IsElement p cs → IsVector Has q vs → Has (dot none plus times cs vs)
+dot_in s [] vs hc hv = s.has_none
+dot_in s (c ∷ cs) [] hc hv = s.has_none
+dot_in s (c ∷ cs) (v ∷ vs) hc hv = s.has_plus _ _ (s.has_times c v (head hc) (head hv)) (dot_in s cs vs (tail hc) (tail hv))
+
+-- ---- the kernel
+module _ {C A : Type 0} (none : A) (plus : A → A → A) (times : C → A → A) where
+  -- a vector is in the kernel exactly where its dot product with each row is zero
+  pub kernel_rows : (m : Matrix C) (v : List A) → (apply none plus times m v ≡ replicate (row_count m) none) ↔ All (λ (r : List C). dot none plus times r v ≡ none) m.rows
+  kernel_rows m v = (
+    λ e k d h.
+        sym (get_or-map (λ (r : List C). dot none plus times r v) m.rows k d none h) ∙ ap (λ (w : List A). get_or w k none) e
+        ∙ get_or-replicate (row_count m) k none none h,
+    λ all.
+        let n = length-map m.rows (λ (r : List C). dot none plus times r v) in
+        let l = length-replicate (row_count m) none in
+        ext_get_or none (apply none plus times m v) (replicate (row_count m) none) (n ∙ sym l)
+        (λ k q.
+        let h : k < row_count m = omega arith in
+        get_or-map (λ (r : List C). dot none plus times r v) m.rows k [] none h ∙ all k [] h ∙ sym (get_or-replicate (row_count m) k none none h)),
+  )
+
+  -- the kernel of stacked matrices is what their kernels have in common
+  pub kernel-stacked : (a b : Matrix C) (v : List A) → a.cols ≡ b.cols → IsInKernel none plus times (stacked a b) v ↔ (IsInKernel none plus times a v × IsInKernel none plus times b v)
+  kernel-stacked a b v e =
+      let n = length-append a.rows b.rows in (
+        λ h.
+            let all = (kernel_rows (stacked a b) v).0 h.zeros in (
+              record { width = h.width; zeros = (kernel_rows a v).1 (λ k d lt. subst (λ (r : List C). dot none plus times r v ≡ none) (get_or_append_left a.rows b.rows d k lt) (all k d (omega arith))) },
+              record {
+                width = h.width ∙ e;
+                zeros = (kernel_rows b v).1 (λ k d lt. subst (λ (r : List C). dot none plus times r v ≡ none) (get_or-append-add a.rows b.rows k d) (all (length a.rows + k) d (omega arith)));
+              },
+            ),
+        λ h. record {
+          width = h.0.width;
+          zeros = (kernel_rows (stacked a b) v).1 (All-append (λ (r : List C). dot none plus times r v ≡ none) a.rows b.rows ((kernel_rows a v).0 h.0.zeros) ((kernel_rows b v).0 h.1.zeros));
+        },
+      )
+
+module _ {C A : Type 0} {IsElement : C → Type 0} {zero one : C} {add sub mul : C → C → C} {inv : C → C} {IsValue : A → Type 0} {none : A} {plus : A → A → A} {times : C → A → A} (laws : IsField IsElement zero one add sub mul inv) (ml : IsModule IsElement zero one add mul IsValue none plus times) where
+  pub kernel_subspace : (m : Matrix C) → IsMatrix IsElement m → IsSubspace IsElement (replicate m.cols none) (add_vectors plus) (scale_vector times) (λ (v : List A). IsVector IsValue m.cols v × IsInKernel none plus times m v)
+  kernel_subspace m hm =
+      let vm = vector_module ml m.cols in
+      let rows = vector_module ml (row_count m) in
+      record {
+        has_none = (vm.none_value, record { width = vm.none_value.width; zeros = apply_zero_vector laws ml m m.cols hm });
+        has_plus = λ u v hu hv.
+            let s = vm.plus_value u v hu.0 hv.0 in (
+              s,
+              record {
+                width = s.width;
+                zeros = apply-add_vectors laws ml m u v hm hu.0 hv.0 ∙ ap₂ (add_vectors plus) hu.1.zeros hv.1.zeros ∙ rows.plus_none (replicate (row_count m) none) rows.none_value;
+              },
+            );
+        has_times = λ x v hx hv.
+            let s = vm.times_value x v hx hv.0 in (
+              s,
+              record {
+                width = s.width;
+                zeros = apply-scale_vector laws ml m x v hm hx hv.0 ∙ ap (scale_vector times x) hv.1.zeros ∙ times_none laws rows x hx;
+              },
+            );
+      }
+
+  -- the dot product of the row space and the kernel is zero
+  pub row_space-kernel : (m : Matrix C) (r : List C) (v : List A) → IsMatrix IsElement m → IsInRowSpace IsElement zero add mul m r → IsVector IsValue m.cols v → IsInKernel none plus times m v → dot none plus times r v ≡ none
+  row_space-kernel m r v hm hr hv hk =
+      ap (λ (s : List C). dot none plus times s v) hr.is_combination ∙ dot-combination laws ml m.cols hr.coefficients m.rows v hr.are_elements (matrix_rows hm) hv
+      ∙ ap (dot none plus times hr.coefficients) hk.zeros ∙ dot_zero_right laws ml (row_count m) hr.coefficients hr.are_elements
+
+  -- where each row of k is in the row space of m, the kernel of m is in that of k
+  pub kernel-rows_in : (k m : Matrix C) (v : List A) → IsMatrix IsElement m → RowsAreIn IsElement zero add mul k m → IsVector IsValue m.cols v → IsInKernel none plus times m v → IsInKernel none plus times k v
+  kernel-rows_in k m v hm within hv hk = record {
+    width = hv.width ∙ sym within.cols;
+    zeros = (kernel_rows none plus times k v).1 (λ i d h. row_space-kernel m (get_or k.rows i d) v hm (within.rows i d h) hv hk);
+  }
+
+  -- matrices of one row space have one kernel
+  pub kernel-one_row_space : (k m : Matrix C) (v : List A) → IsMatrix IsElement k → IsMatrix IsElement m → HaveOneRowSpace IsElement zero add mul k m → IsVector IsValue m.cols v → IsInKernel none plus times k v ↔ IsInKernel none plus times m v
+  kernel-one_row_space k m v hk hm one_space hv = (
+    λ h. kernel-rows_in m k v hk one_space.second_in (subst (λ (n : ℕ). IsVector IsValue n v) (sym one_space.first_in.cols) hv) h,
+    λ h. kernel-rows_in k m v hm one_space.first_in hv h,
+  )
+
+-- ---- the row space
+module _ {A : Type 0} {IsElement : A → Type 0} {zero one : A} {add sub mul : A → A → A} {inv : A → A} (laws : IsField IsElement zero one add sub mul inv) where
+  abbrev RowSpace : Matrix A → List A → Type 0
+  RowSpace m v = IsInRowSpace IsElement zero add mul m v
+
+  abbrev vectors : (n : ℕ) → IsModule IsElement zero one add mul (IsVector IsElement n) (replicate n zero) (add_vectors add) (scale_vector mul)
+  vectors n = vector_module (field_module laws) n
+
+  pub row_space_subspace : (m : Matrix A) → IsMatrix IsElement m → IsSubspace IsElement (replicate m.cols zero) (add_vectors add) (scale_vector mul) (IsInRowSpace IsElement zero add mul m)
+  row_space_subspace m hm =
+      let n = row_count m in record {
+        has_none = record {
+          coefficients = replicate n zero;
+          are_elements = (vectors n).none_value;
+          is_combination = sym (dot_zero_left laws (vectors m.cols) n m.rows (matrix_rows hm));
+        };
+        has_plus = λ u v hu hv. record {
+          coefficients = add_vectors add hu.coefficients hv.coefficients;
+          are_elements = (vectors n).plus_value hu.coefficients hv.coefficients hu.are_elements hv.are_elements;
+          is_combination =
+              ap₂ (add_vectors add) hu.is_combination hv.is_combination
+              ∙ sym (dot-add_left laws (vectors m.cols) hu.coefficients hv.coefficients m.rows hu.are_elements hv.are_elements (matrix_rows hm));
+        };
+        has_times = λ x v hx hv. record {
+          coefficients = scale_vector mul x hv.coefficients;
+          are_elements = (vectors n).times_value x hv.coefficients hx hv.are_elements;
+          is_combination = ap (scale_vector mul x) hv.is_combination ∙ sym (dot-scale_left laws (vectors m.cols) x hv.coefficients m.rows hx hv.are_elements (matrix_rows hm));
+        };
+      }
+
+  -- each row is in it
+  pub row-in_row_space : (m : Matrix A) (i : ℕ) → IsMatrix IsElement m → i < row_count m → IsInRowSpace IsElement zero add mul m (row m i)
+  row-in_row_space m i hm h = record {
+    coefficients = unit_vector zero one (row_count m) i;
+    are_elements = IsVector-unit laws (row_count m) i;
+    is_combination =
+        get_or_default m.rows i [] (replicate m.cols zero) h ∙ sym (dot_unit laws (vectors m.cols) (row_count m) i m.rows (matrix_rows hm) h);
+  }
+
+  all_rows_in : (m : Matrix A) → IsMatrix IsElement m → All (RowSpace m) m.rows
+  all_rows_in m hm k d h = subst (RowSpace m) (get_or_default m.rows k [] d h) (row-in_row_space m k hm h)
+
+  -- what is spanned by rows of a row space is in that row space
+  pub row_space-rows_in : (k m : Matrix A) (v : List A) → IsMatrix IsElement m → RowsAreIn IsElement zero add mul k m → IsInRowSpace IsElement zero add mul k v → IsInRowSpace IsElement zero add mul m v
+  row_space-rows_in k m v hm within hv =
+      subst (RowSpace m) (sym (hv.is_combination ∙ ap (λ (n : ℕ). combination zero add mul n hv.coefficients k.rows) within.cols))
+      (dot_in (row_space_subspace m hm) hv.coefficients k.rows hv.are_elements (vector_of k.rows within.rows))
+
+  -- ---- the row operations. A row that is replaced by one of the row space stays in it
+  replaced : (m : Matrix A) (a : ℕ) (v : List A) → IsMatrix IsElement m → RowSpace m v → RowsAreIn IsElement zero add mul (with_row m a v) m
+  replaced m a v hm hv = record { cols = refl; rows = All-set (RowSpace m) m.rows a v hv (all_rows_in m hm) }
+
+  swapped : (m : Matrix A) (a b : ℕ) → IsMatrix IsElement m → a < row_count m → b < row_count m → RowsAreIn IsElement zero add mul (swap_rows m a b) m
+  swapped m a b hm ha hb = record {
+    cols = refl;
+    rows =
+        subst (All (RowSpace m)) (swap_is m.rows a b [] ha hb)
+        (All-set (RowSpace m) (set m.rows a (row m b)) b (row m a) (row-in_row_space m a hm ha) (All-set (RowSpace m) m.rows a (row m b) (row-in_row_space m b hm hb) (all_rows_in m hm)));
+  }
+
+  scaled : (m : Matrix A) (a : ℕ) (c : A) → IsMatrix IsElement m → IsElement c → a < row_count m → RowsAreIn IsElement zero add mul (scale_row mul m a c) m
+  scaled m a c hm hc ha = replaced m a _ hm ((row_space_subspace m hm).has_times c (row m a) hc (row-in_row_space m a hm ha))
+
+  added : (m : Matrix A) (a b : ℕ) (c : A) → IsMatrix IsElement m → IsElement c → a < row_count m → b < row_count m → RowsAreIn IsElement zero add mul (add_row add mul m a c b) m
+  added m a b c hm hc ha hb =
+      let s = row_space_subspace m hm in
+      replaced m a _ hm (s.has_plus (row m a) (scale_vector mul c (row m b)) (row-in_row_space m a hm ha) (s.has_times c (row m b) hc (row-in_row_space m b hm hb)))
+
+  -- each is undone by another
+  pub swap_rows-swap_rows : (m : Matrix A) (a b : ℕ) → a < row_count m → b < row_count m → swap_rows (swap_rows m a b) a b ≡ m
+  swap_rows-swap_rows m a b ha hb = same_matrix (swap_rows (swap_rows m a b) a b) m refl (swap-swap m.rows a b [] ha hb)
+
+  -- row a written twice, the second time as it was
+  written_back : (m : Matrix A) (a : ℕ) (v w : List A) → w ≡ row m a → with_row (with_row m a v) a w ≡ m
+  written_back m a v w e =
+      same_matrix (with_row (with_row m a v) a w) m refl (set-set m.rows a v w ∙ ap (set m.rows a) e ∙ set-get_or m.rows a [])
+
+  pub scale_row-inverse : (m : Matrix A) (a : ℕ) (c : A) → IsMatrix IsElement m → IsElement c → c ≢ zero → a < row_count m → scale_row mul (scale_row mul m a c) a (inv c) ≡ m
+  scale_row-inverse m a c hm hc ne ha =
+      written_back m a (scale_vector mul c (row m a)) _
+      (ap (scale_vector mul (inv c)) (get_or-set_same m.rows a (scale_vector mul c (row m a)) [] ha) ∙ inv_times laws (vectors m.cols) c (row m a) hc (hm.vectors a [] ha) ne)
+
+  pub add_row-negative : (m : Matrix A) (a b : ℕ) (c : A) → IsMatrix IsElement m → IsElement c → a < row_count m → b < row_count m → a ≢ b → add_row add mul (add_row add mul m a c b) a (sub zero c) b ≡ m
+  add_row-negative m a b c hm hc ha hb ne =
+      let v = add_vectors add (row m a) (scale_vector mul c (row m b)) in
+      written_back m a v _
+      (ap₂ (λ (r s : List A). add_vectors add r (scale_vector mul (sub zero c) s)) (get_or-set_same m.rows a v [] ha) (get_or-set_other m.rows a b v [] (λ e. ne (sym e)))
+      ∙ plus_times_back laws (vectors m.cols) c (row m a) (row m b) hc (hm.vectors a [] ha) (hm.vectors b [] hb))
+
+  -- where row b is zero before a column, its multiple may be added from there on
+  pub add_row_from-zeros : (m : Matrix A) (a b : ℕ) (c : A) (start : ℕ) → IsMatrix IsElement m → IsElement c → a < row_count m → b < row_count m → start ≤ m.cols → ((j : ℕ) → j < start → entry zero m b j ≡ zero) → add_row_from add mul m a c b start ≡ add_row add mul m a c b
+  add_row_from-zeros m a b c start hm hc ha hb le zeros =
+      let u = row m a in
+      let v = row m b in
+      let wu : length u ≡ m.cols = (hm.vectors a [] ha).width in
+      let wv : length v ≡ m.cols = (hm.vectors b [] hb).width in
+      let front : length (take start u) ≡ start = length-take-le start u (omega arith) in
+      let du = length-drop start u in
+      let dv = length-drop start v in
+      let sv = length-scale_vector mul c (drop start v) in
+      let cv = length-scale_vector mul c v in
+      let rest : List A = add_vectors add (drop start u) (scale_vector mul c (drop start v)) in
+      let lr : length rest ≡ length (drop start u) = length-add_vectors add (drop start u) (scale_vector mul c (drop start v)) (omega arith) in
+      let ll = length-append (take start u) rest in
+      let whole : length (add_vectors add u (scale_vector mul c v)) ≡ length u = length-add_vectors add u (scale_vector mul c v) (omega arith) in
+      ap (with_row m a)
+      (ext_get_or zero (take start u ++ rest) (add_vectors add u (scale_vector mul c v)) (omega arith)
+      (λ k h.
+      let sum : get_or (add_vectors add u (scale_vector mul c v)) k zero ≡ add (get_or u k zero) (mul c (get_or v k zero)) =
+      get_or-add_vectors add u (scale_vector mul c v) k zero (omega arith) (omega arith) ∙ ap (add (get_or u k zero)) (get_or-scale_vector mul c v k zero (omega arith)) in
+      elim (cases_lt k start) [
+        | inl lt ↦
+            get_or_append_left (take start u) rest zero k (omega arith) ∙ get_or-take start u k zero lt
+            ∙ sym (sum ∙ ap (λ (x : A). add (get_or u k zero) (mul c x)) (zeros k lt) ∙ ap (add (get_or u k zero)) (mul_zero laws c hc)
+            ∙ laws.add_zero (get_or u k zero) (entry_at k zero (hm.vectors a [] ha) (omega arith)))
+        | inr ge ↦
+            (let at : start + (k - start) ≡ k = omega arith in
+            get_or-append_right (take start u) rest start k zero front ge
+            ∙ get_or-add_vectors add (drop start u) (scale_vector mul c (drop start v)) (k - start) zero (omega arith) (omega arith)
+            ∙ ap₂ add (get_or-drop start u (k - start) zero ∙ ap (λ (j : ℕ). get_or u j zero) at)
+            (get_or-scale_vector mul c (drop start v) (k - start) zero (omega arith) ∙ ap (mul c) (get_or-drop start v (k - start) zero ∙ ap (λ (j : ℕ). get_or v j zero) at))
+            ∙ sym sum)
+      ]))
+
+  IsMatrix-scale_row : (m : Matrix A) (a : ℕ) (c : A) → IsMatrix IsElement m → IsElement c → a < row_count m → IsMatrix IsElement (scale_row mul m a c)
+  IsMatrix-scale_row m a c hm hc ha = IsMatrix-with_row m a _ hm ((vectors m.cols).times_value c (row m a) hc (hm.vectors a [] ha))
+
+  IsMatrix-add_row : (m : Matrix A) (a b : ℕ) (c : A) → IsMatrix IsElement m → IsElement c → a < row_count m → b < row_count m → IsMatrix IsElement (add_row add mul m a c b)
+  IsMatrix-add_row m a b c hm hc ha hb =
+      IsMatrix-with_row m a _ hm ((vectors m.cols).plus_value (row m a) (scale_vector mul c (row m b)) (hm.vectors a [] ha) ((vectors m.cols).times_value c (row m b) hc (hm.vectors b [] hb)))
+
+  -- so each keeps the row space
+  pub row_space-swap_rows : (m : Matrix A) (a b : ℕ) → IsMatrix IsElement m → a < row_count m → b < row_count m → HaveOneRowSpace IsElement zero add mul (swap_rows m a b) m
+  row_space-swap_rows m a b hm ha hb =
+      let n = length-swap m.rows a b in
+      record {
+        first_in = swapped m a b hm ha hb;
+        second_in =
+            subst (λ (k : Matrix A). RowsAreIn IsElement zero add mul k (swap_rows m a b)) (swap_rows-swap_rows m a b ha hb)
+            (swapped (swap_rows m a b) a b (IsMatrix-swap_rows m a b ha hb hm) (omega arith) (omega arith));
+      }
+
+  pub row_space-scale_row : (m : Matrix A) (a : ℕ) (c : A) → IsMatrix IsElement m → IsElement c → c ≢ zero → a < row_count m → HaveOneRowSpace IsElement zero add mul (scale_row mul m a c) m
+  row_space-scale_row m a c hm hc ne ha =
+      let n = length-set m.rows a (scale_vector mul c (row m a)) in
+      record {
+        first_in = scaled m a c hm hc ha;
+        second_in =
+            subst (λ (k : Matrix A). RowsAreIn IsElement zero add mul k (scale_row mul m a c)) (scale_row-inverse m a c hm hc ne ha)
+            (scaled (scale_row mul m a c) a (inv c) (IsMatrix-scale_row m a c hm hc ha) (laws.inv_element c hc ne) (omega arith));
+      }
+
+  pub row_space-add_row : (m : Matrix A) (a b : ℕ) (c : A) → IsMatrix IsElement m → IsElement c → a < row_count m → b < row_count m → a ≢ b → HaveOneRowSpace IsElement zero add mul (add_row add mul m a c b) m
+  row_space-add_row m a b c hm hc ha hb ne =
+      let n = length-set m.rows a (add_vectors add (row m a) (scale_vector mul c (row m b))) in
+      record {
+        first_in = added m a b c hm hc ha hb;
+        second_in =
+            subst (λ (k : Matrix A). RowsAreIn IsElement zero add mul k (add_row add mul m a c b)) (add_row-negative m a b c hm hc ha hb ne)
+            (added (add_row add mul m a c b) a b (sub zero c) (IsMatrix-add_row m a b c hm hc ha hb) (laws.sub_element zero c laws.zero_element hc) (omega arith) (omega arith));
+      }
+
+-- and the kernel, whose vectors may have values of any module
+module _ {C A : Type 0} {IsElement : C → Type 0} {zero one : C} {add sub mul : C → C → C} {inv : C → C} {IsValue : A → Type 0} {none : A} {plus : A → A → A} {times : C → A → A} (laws : IsField IsElement zero one add sub mul inv) (ml : IsModule IsElement zero one add mul IsValue none plus times) where
+  pub kernel-swap_rows : (m : Matrix C) (a b : ℕ) (v : List A) → IsMatrix IsElement m → IsVector IsValue m.cols v → a < row_count m → b < row_count m → IsInKernel none plus times (swap_rows m a b) v ↔ IsInKernel none plus times m v
+  kernel-swap_rows m a b v hm hv ha hb =
+      kernel-one_row_space laws ml (swap_rows m a b) m v (IsMatrix-swap_rows m a b ha hb hm) hm (row_space-swap_rows laws m a b hm ha hb) hv
+
+  pub kernel-scale_row : (m : Matrix C) (a : ℕ) (c : C) (v : List A) → IsMatrix IsElement m → IsVector IsValue m.cols v → a < row_count m → IsElement c → c ≢ zero → IsInKernel none plus times (scale_row mul m a c) v ↔ IsInKernel none plus times m v
+  kernel-scale_row m a c v hm hv ha hc ne =
+      kernel-one_row_space laws ml (scale_row mul m a c) m v (IsMatrix-scale_row laws m a c hm hc ha) hm (row_space-scale_row laws m a c hm hc ne ha) hv
+
+  pub kernel-add_row : (m : Matrix C) (a b : ℕ) (c : C) (v : List A) → IsMatrix IsElement m → IsVector IsValue m.cols v → a < row_count m → b < row_count m → a ≢ b → IsElement c → IsInKernel none plus times (add_row add mul m a c b) v ↔ IsInKernel none plus times m v
+  kernel-add_row m a b c v hm hv ha hb ne hc =
+      kernel-one_row_space laws ml (add_row add mul m a c b) m v (IsMatrix-add_row laws m a b c hm hc ha hb) hm (row_space-add_row laws m a b c hm hc ha hb ne) hv

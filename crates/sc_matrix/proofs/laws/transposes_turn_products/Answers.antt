@@ -1,0 +1,5 @@
+use Rattle.sc_matrix.proofs.LawRecords.{transpose_laws}
+use Rattle.sc_matrix.proofs.laws.transposes_turn_products.Goals as goal
+
+pub returns : goal.returns
+returns g c = transpose_laws g.met.F.Field.field
