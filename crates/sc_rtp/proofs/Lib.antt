@@ -1,0 +1,4 @@
+pub mod WordLaws
+pub mod HeadLaws
+pub mod PartLaws
+pub mod ReadingLaws
