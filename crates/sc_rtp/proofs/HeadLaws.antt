@@ -1,12 +1,12 @@
 -- The fixed head, and the bytes that spell it.
-use Rattle.std.proofs.Common.{◌≡◌, ℕ, zero, suc, ◌+◌, ◌*◌, ◌/◌, ◌%◌, ◌^◌, ◌<◌, ◌≤◌, ◌==◌, Bool, true, false, List, [], ◌∷◌, ◌++◌, length, drop, get_or, refl, sym, ap, ◌∙◌, arith}
-use Rattle.std.proofs.lemmas.Bool.{eq-eqb, eqb-true}
+use Rattle.std.proofs.Common.{◌≡◌, ℕ, zero, suc, ◌/◌, ◌%◌, ◌<◌, ◌≤◌, ◌==◌, Bool, true, false, List, [], ◌∷◌, ◌++◌, length, drop, get_or, refl, ap, ◌∙◌, arith}
+use Rattle.std.proofs.lemmas.Bool.{eq-eqb}
 use Rattle.std.proofs.lemmas.Nat.{from_be_bytes-to_be_bytes_2, from_be_bytes-to_be_bytes_4}
 use Rattle.std.specs.Int.{w16, w32, to_be_bytes}
 use Rattle.sc_rtp.specs.declared.head.Head.{Head}
-use Rattle.sc_rtp.specs.Head.{flag, IsHead, first_byte, second_byte, head_bytes, number16, number32, head_of}
+use Rattle.sc_rtp.specs.Head.{flag, IsHead, first_byte, second_byte, head_bytes, head_of}
 use Rattle.sc_rtp.specs.Reading.{AreBytes}
-use Rattle.sc_rtp.proofs.WordLaws.{to_be_bytes-number16, to_be_bytes-number32, number16-fits, number32-fits, front_four}
+use Rattle.sc_rtp.proofs.WordLaws.{to_be_bytes-number16, to_be_bytes-number32, number16-fits, number32-fits}
 
 pub length-head_bytes : (h : Head) → length (head_bytes h) ≡ 12
 length-head_bytes h = refl

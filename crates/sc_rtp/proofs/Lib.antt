@@ -2,3 +2,4 @@ pub mod WordLaws
 pub mod HeadLaws
 pub mod PartLaws
 pub mod ReadingLaws
+pub mod ViewSteps

@@ -1,16 +1,16 @@
 -- An extension at the front of bytes and padding at their end: what is spelled is read, and what is read is spelled.
-use Rattle.std.proofs.Common.{◌≡◌, ◌≢◌, ℕ, zero, suc, ◌+◌, ◌-◌, ◌*◌, ◌^◌, ◌<◌, ◌≤◌, ◌==◌, ◌⊎◌, inl, inr, Bool, true, false, cond, nat_lt, is_some, Option, Some, None, Result, Ok, Err, List, [], ◌∷◌, ◌++◌, length, take, drop, get_or, refl, sym, ap, ◌∙◌, subst, arith, append_assoc, append-nil, take_all, length-append, length-drop, length-take, take-append-drop}
+use Rattle.std.proofs.Common.{◌≡◌, ℕ, suc, ◌+◌, ◌-◌, ◌*◌, ◌^◌, ◌<◌, ◌≤◌, ◌==◌, ◌⊎◌, inl, inr, Bool, true, false, cond, nat_lt, is_some, Option, Some, None, Result, Ok, Err, List, [], ◌∷◌, ◌++◌, length, take, drop, get_or, refl, sym, ap, ◌∙◌, subst, arith, append_assoc, append-nil, take_all, length-append, length-drop, take-append-drop}
 use Rattle.std.proofs.lemmas.Bool.{eq-eqb, eqb-true, eqb-false, ne_eqb, ltb-true, ltb-false, lt-ltb, le-ltb}
 use Rattle.std.proofs.lemmas.List.{drop-drop, length-take-le}
 use Rattle.std.proofs.lemmas.Nat.{from_be_bytes-to_be_bytes_2}
 use Rattle.std.proofs.Math.Seq.{take-append_seam, drop-append_seam, drop-cons, drop-length, get_or-append_seam}
 use Rattle.std.specs.Int.{w16, to_be_bytes}
 use Rattle.sc_rtp.specs.declared.not_rtp.NotRtp.{NotRtp}
-use Rattle.sc_rtp.specs.declared.not_rtp.NotRtp.TheVariants.{Short, Version, Csrc, Extension, Padding}
+use Rattle.sc_rtp.specs.declared.not_rtp.NotRtp.TheVariants.{Extension, Padding}
 use Rattle.sc_rtp.specs.Head.{number16}
-use Rattle.sc_rtp.specs.Packet.{HeaderExtension, AreWords, words_bytes, extension_bytes, extension_len, IsExtension, padding_bytes, IsPadding}
+use Rattle.sc_rtp.specs.Packet.{HeaderExtension, words_bytes, extension_bytes, extension_len, IsExtension, padding_bytes, IsPadding}
 use Rattle.sc_rtp.specs.Reading.{AreBytes, words_of, word_count, extension_size, extension_of, last_byte, padding_size, padding_of}
-use Rattle.sc_rtp.specs.Refusal.{CutsWords, CutsExtension, MiscountsPadding}
+use Rattle.sc_rtp.specs.Refusal.{CutsExtension, MiscountsPadding}
 use Rattle.sc_rtp.proofs.WordLaws.{to_be_bytes-number16, number16-fits, AreBytes-drop, front_four, length-words_bytes, length-words_of, words_of-fit, words_of-spelled, words_bytes-of}
 
 -- what two tests tell, of which each refuses for the same reason

@@ -1,15 +1,15 @@
 -- The reading of bytes is the one that the grammar gives.
-use Rattle.std.proofs.Common.{◌≡◌, ◌≢◌, ℕ, ◌+◌, ◌*◌, ◌<◌, ◌≤◌, ◌==◌, ◌⊎◌, inl, inr, Bool, true, false, cond, nat_lt, is_some, Option, Some, None, Result, Ok, Err, List, [], ◌∷◌, ◌++◌, length, take, drop, refl, sym, ap, ◌∙◌, subst, arith, append_assoc, length-append, length-drop}
+use Rattle.std.proofs.Common.{◌≡◌, ◌≢◌, ℕ, ◌*◌, ◌^◌, ◌<◌, ◌==◌, Bool, true, false, cond, nat_lt, is_some, Option, Result, Ok, Err, List, ◌++◌, length, drop, refl, sym, ap, ◌∙◌, subst, arith, append-nil, length-append}
 use Rattle.std.proofs.lemmas.Bool.{eq-eqb, eqb-true, eqb-false, ne_eqb, ltb-true, ltb-false, lt-ltb, le-ltb}
 use Rattle.sc_rtp.specs.declared.head.Head.{Head}
 use Rattle.sc_rtp.specs.declared.not_rtp.NotRtp.{NotRtp}
 use Rattle.sc_rtp.specs.declared.not_rtp.NotRtp.TheVariants.{Short, Version, Csrc, Extension, Padding}
 use Rattle.sc_rtp.specs.Head.{IsHead, head_bytes, head_of}
-use Rattle.sc_rtp.specs.Packet.{HeaderExtension, Packet, AreWords, words_bytes, extension_bytes, extension_len, IsExtension, padding_bytes, IsPacket}
+use Rattle.sc_rtp.specs.Packet.{HeaderExtension, Packet, AreWords, words_bytes, extension_bytes, extension_len, IsExtension, padding_bytes, IsPacket, plain_head, plain_packet}
 use Rattle.sc_rtp.specs.Reading.{AreBytes, words_of, extension_size, extension_of, padding_size, padding_of, with_padding, with_extension, with_head, reading_of}
-use Rattle.sc_rtp.specs.Refusal.{BeginsWithHead, HasOtherVersion, LacksCsrcs, BeginsWithCsrcs, LacksExtension, LacksPadding, IsRefused}
+use Rattle.sc_rtp.specs.Refusal.{BeginsWithHead, HasOtherVersion, LacksCsrcs, BeginsWithCsrcs, LacksExtension, LacksPadding, IsRefused, ReadGives}
 use Rattle.sc_rtp.proofs.WordLaws.{AreBytes-drop, length-words_bytes, length-words_of, words_of-fit, words_of-spelled, words_bytes-of}
-use Rattle.sc_rtp.proofs.HeadLaws.{length-head_bytes, drop-head_bytes, head_of-spelled, head_of-fits, head_bytes-of}
+use Rattle.sc_rtp.proofs.HeadLaws.{head_of-spelled, head_of-fits, head_bytes-of}
 use Rattle.sc_rtp.proofs.PartLaws.{cond_true, cond_false, drop-front, extension-read, extension-there, extension-cut, extension-refused, padding-read, padding-there, padding-wrong, padding-refused}
 
 -- ---- what is spelled is read
@@ -24,10 +24,10 @@ pub reading_of-short : (bytes : List ℕ) → length bytes < 12 → reading_of b
 unfolding reading_of
 reading_of-short bytes few = cond_true (nat_lt (length bytes) 12) (Err Short) _ (lt-ltb (length bytes) 12 few)
 
-with_head-other : (h : Head) (rest : List ℕ) → h.version ≢ 2 → with_head h rest ≡ Err Version
+pub with_head-other : (h : Head) (rest : List ℕ) → h.version ≢ 2 → with_head h rest ≡ Err Version
 with_head-other h rest other = cond_false (h.version == 2) _ (Err Version) (ne_eqb h.version 2 other)
 
-with_head-few : (h : Head) (rest : List ℕ) → h.version ≡ 2 → length rest < 4 * h.csrc_count → with_head h rest ≡ Err Csrc
+pub with_head-few : (h : Head) (rest : List ℕ) → h.version ≡ 2 → length rest < 4 * h.csrc_count → with_head h rest ≡ Err Csrc
 with_head-few h rest version few =
     cond_true (h.version == 2) _ (Err Version) (eq-eqb h.version 2 version)
     ∙ cond_true (nat_lt (length rest) (4 * h.csrc_count)) (Err Csrc) _ (lt-ltb (length rest) (4 * h.csrc_count) few)
@@ -83,6 +83,23 @@ reading_of-packet bytes p is =
     ∙ with_csrcs-extension p.head p.csrcs _ p.extension is.extended is.extension
     ∙ with_padding-padding p.head p.csrcs p.payload p.extension p.padding is.padded
 
+-- a plain head before any payload is read back
+pub reading_of-plain : (payload_type sequence timestamp ssrc : ℕ) (payload : List ℕ) → payload_type < 128 → sequence < 2 ^ 16 → timestamp < 2 ^ 32 → ssrc < 2 ^ 32
+    → let h = plain_head payload_type sequence timestamp ssrc in reading_of (head_bytes h ++ payload) ≡ Ok (plain_packet h payload)
+reading_of-plain payload_type sequence timestamp ssrc payload a b c d =
+    let h = plain_head payload_type sequence timestamp ssrc in
+    reading_of-packet (head_bytes h ++ payload) (plain_packet h payload) (record {
+      head = record { version = omega arith; csrc_count = omega arith; payload_type = a; sequence = b; timestamp = c; ssrc = d };
+      version = refl;
+      csrc_count = refl;
+      csrcs = tt;
+      extended = refl;
+      extension = tt;
+      padded = refl;
+      padding = tt;
+      parts = ap (λ l. head_bytes h ++ l) (sym (append-nil payload));
+    })
+
 begins_with_csrcs : (bytes rest : List ℕ) (h : Head) (b : BeginsWithCsrcs bytes h rest) → reading_of bytes ≡ with_csrcs h b.csrcs rest
 begins_with_csrcs bytes rest h b =
     ap reading_of b.begins.parts
@@ -117,15 +134,10 @@ reading_of-refused bytes Padding r = lacks_padding bytes r
 
 -- ---- what is read is there
 
--- what a reading says of bytes: they are a packet, or refused
-abbrev IsGiven : List ℕ → Result Packet NotRtp → Type 0
-IsGiven bytes (Ok p) = IsPacket bytes p
-IsGiven bytes (Err e) = IsRefused bytes e
-
 -- behind the header, where the padding was read or refused
 given_padding : (bytes rest : List ℕ) (h : Head) (e : Option HeaderExtension) (b : BeginsWithCsrcs bytes h (extension_bytes e ++ rest))
     → is_some e ≡ h.extended → IsExtension e → AreBytes rest → (s : Result ℕ NotRtp) → padding_size h.padded rest ≡ s
-    → IsGiven bytes (with_padding h b.csrcs e rest s)
+    → ReadGives bytes (with_padding h b.csrcs e rest s)
 given_padding bytes rest h e b same fits are (Ok n) is =
     let t = padding-there h.padded rest n are is in
     record {
@@ -146,7 +158,7 @@ given_padding bytes rest h e b same fits are (Err c) is =
 
 -- behind the CSRC words, where the extension was read or refused
 given_extension : (bytes rest : List ℕ) (h : Head) (b : BeginsWithCsrcs bytes h rest) → AreBytes rest
-    → (s : Result ℕ NotRtp) → extension_size h.extended rest ≡ s → IsGiven bytes (with_extension h b.csrcs rest s)
+    → (s : Result ℕ NotRtp) → extension_size h.extended rest ≡ s → ReadGives bytes (with_extension h b.csrcs rest s)
 given_extension bytes rest h b are (Ok n) is =
     let t = extension-there h.extended rest n are is in
     let e = extension_of h.extended rest in
@@ -165,7 +177,7 @@ given_extension bytes rest h b are (Err c) is =
 -- behind the fixed head, by its two tests
 given_head : (bytes rest : List ℕ) (h : Head) → BeginsWithHead bytes h rest → AreBytes rest
     → (a b : Bool) → (h.version == 2) ≡ a → nat_lt (length rest) (4 * h.csrc_count) ≡ b
-    → IsGiven bytes (cond a (cond b (Err Csrc) (with_csrcs h (words_of h.csrc_count rest) (drop (4 * h.csrc_count) rest))) (Err Version))
+    → ReadGives bytes (cond a (cond b (Err Csrc) (with_csrcs h (words_of h.csrc_count rest) (drop (4 * h.csrc_count) rest))) (Err Version))
 unfolding with_csrcs
 given_head bytes rest h begins are false b s t = record { head = h; rest = rest; begins = begins; other = eqb-false h.version 2 s }
 given_head bytes rest h begins are true true s t =
@@ -185,7 +197,7 @@ given_head bytes rest h begins are true false s t =
     given_extension bytes behind h begins_csrcs (AreBytes-drop n rest are) (extension_size h.extended behind) refl
 
 given_bytes : (bytes : List ℕ) → AreBytes bytes → (a : Bool) → nat_lt (length bytes) 12 ≡ a
-    → IsGiven bytes (cond a (Err Short) (with_head (head_of bytes) (drop 12 bytes)))
+    → ReadGives bytes (cond a (Err Short) (with_head (head_of bytes) (drop 12 bytes)))
 unfolding with_csrcs
 given_bytes bytes are true s = ltb-true (length bytes) 12 s
 given_bytes bytes are false s =
@@ -195,17 +207,17 @@ given_bytes bytes are false s =
     } in
     given_head bytes (drop 12 bytes) (head_of bytes) begins (AreBytes-drop 12 bytes are) _ _ refl refl
 
-reading_of-given : (bytes : List ℕ) → AreBytes bytes → IsGiven bytes (reading_of bytes)
+pub reading_of-given : (bytes : List ℕ) → AreBytes bytes → ReadGives bytes (reading_of bytes)
 unfolding reading_of
 reading_of-given bytes are = given_bytes bytes are _ refl
 
 -- the parts that are read are those of a packet
 pub reading_of-there : (bytes : List ℕ) (p : Packet) → AreBytes bytes → reading_of bytes ≡ Ok p → IsPacket bytes p
-reading_of-there bytes p are is = subst (IsGiven bytes) is (reading_of-given bytes are)
+reading_of-there bytes p are is = subst (ReadGives bytes) is (reading_of-given bytes are)
 
 -- a reason that is read is there
 pub refusal-there : (bytes : List ℕ) (e : NotRtp) → AreBytes bytes → reading_of bytes ≡ Err e → IsRefused bytes e
-refusal-there bytes e are is = subst (IsGiven bytes) is (reading_of-given bytes are)
+refusal-there bytes e are is = subst (ReadGives bytes) is (reading_of-given bytes are)
 
 -- bytes are one packet at most
 pub one_packet : (bytes : List ℕ) (p q : Packet) → IsPacket bytes p → IsPacket bytes q → p ≡ q

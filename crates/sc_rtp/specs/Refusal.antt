@@ -1,11 +1,11 @@
 -- Why bytes aren't a packet, in the words of the grammar: the parts that are there, up to the one that isn't.
-use Rattle.std.specs.Prelude.{◌≡◌, ◌≢◌, ℕ, ◌+◌, ◌*◌, ◌^◌, ◌<◌, ◌⊎◌, true, is_some, Option, List, [], ◌∷◌, ◌++◌, length}
+use Rattle.std.specs.Prelude.{◌≡◌, ◌≢◌, ℕ, ◌+◌, ◌*◌, ◌^◌, ◌<◌, ◌⊎◌, true, is_some, Option, Result, Ok, Err, List, [], ◌∷◌, ◌++◌, length}
 use Rattle.std.specs.Int.{w16, to_be_bytes}
 use Rattle.sc_rtp.specs.declared.head.Head.{Head}
 use Rattle.sc_rtp.specs.declared.not_rtp.NotRtp.{NotRtp}
 use Rattle.sc_rtp.specs.declared.not_rtp.NotRtp.TheVariants.{Short, Version, Csrc, Extension, Padding}
 use Rattle.sc_rtp.specs.Head.{IsHead, head_bytes}
-use Rattle.sc_rtp.specs.Packet.{HeaderExtension, AreWords, words_bytes, IsExtension, extension_bytes}
+use Rattle.sc_rtp.specs.Packet.{HeaderExtension, Packet, AreWords, words_bytes, IsExtension, extension_bytes, IsPacket}
 
 -- bytes begin with a fixed head, and this follows it
 pub record BeginsWithHead (bytes : List ℕ) (head : Head) (rest : List ℕ) : Type 0 where
@@ -82,3 +82,8 @@ IsRefused bytes Version = HasOtherVersion bytes
 IsRefused bytes Csrc = LacksCsrcs bytes
 IsRefused bytes Extension = LacksExtension bytes
 IsRefused bytes Padding = LacksPadding bytes
+
+-- what reading bytes answers: the parts of the packet that they are, or why they are none
+abbrev pub ReadGives : List ℕ → Result Packet NotRtp → Type 0
+ReadGives bytes (Ok p) = IsPacket bytes p
+ReadGives bytes (Err e) = IsRefused bytes e

@@ -23,6 +23,7 @@ pub(crate) struct Head {
 
 impl Head {
     /// The head with which a packet begins.
+    #[tactic(auto, unfolding(crate::specs::Head::head_of))]
     pub(crate) fn of(packet: &[u8]) -> Head
         requires { 12 ≤ length packet.now }
         ensures { result ≡ head_of packet.now }
@@ -58,9 +59,21 @@ pub fn write_head(
         (payload : List ℕ) → reading_of (out.new ++ payload) ≡ Ok (plain_packet (plain_head payload_type sequence timestamp ssrc) payload)
     }
 {
-    out[0] = 0x80;
-    out[1] = payload_type;
-    out[2..4].copy_from_slice(&sequence.to_be_bytes());
-    out[4..8].copy_from_slice(&timestamp.to_be_bytes());
-    out[8..].copy_from_slice(&ssrc.to_be_bytes());
+    let sequence = sequence.to_be_bytes();
+    let timestamp = timestamp.to_be_bytes();
+    let ssrc = ssrc.to_be_bytes();
+    *out = [
+        0x80,
+        payload_type,
+        sequence[0],
+        sequence[1],
+        timestamp[0],
+        timestamp[1],
+        timestamp[2],
+        timestamp[3],
+        ssrc[0],
+        ssrc[1],
+        ssrc[2],
+        ssrc[3],
+    ];
 }

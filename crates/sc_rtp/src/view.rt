@@ -1,7 +1,7 @@
 //! The reader of a packet.
-ghost use Rattle.std.specs.Prelude.{◌≡◌, IfOk, IfErr, length};
-ghost use Rattle.sc_rtp.specs.Packet.{IsPacket, header_size};
-ghost use Rattle.sc_rtp.specs.Refusal.{IsRefused};
+ghost use Rattle.std.specs.Prelude.{◌≡◌, length};
+ghost use Rattle.sc_rtp.specs.Packet.{header_size};
+ghost use Rattle.sc_rtp.specs.Refusal.{ReadGives};
 ghost use Rattle.sc_rtp.specs.Reading.{reading_of, extension_size, padding_size};
 
 use super::head::{FIXED, Head};
@@ -72,8 +72,7 @@ impl<'a> RtpView<'a> {
     /// Reads a packet. Bytes that are none are refused by the first case of `NotRtp` that holds.
     pub fn read(packet: &'a [u8]) -> Result<RtpView<'a>, NotRtp>
         ensures reading { result ≡ reading_of packet.now }
-        ensures packet { IfOk result (λ view. IsPacket packet.now view) }
-        ensures refused { IfErr result (λ case. IsRefused packet.now case) }
+        ensures gives { ReadGives packet.now result }
     {
         if packet.len() < FIXED {
             return Err(NotRtp::Short);
