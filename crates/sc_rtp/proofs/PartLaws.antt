@@ -129,11 +129,11 @@ extension-there true bytes n fits e =
     let behind : drop n bytes ≡ drop (4 * count) rest = ap (λ k. drop k bytes) tells.is ∙ sym (drop-drop (4 * count) 4 bytes) in
     record {
       parts =
-        ap (λ l. extension_bytes (extension_of true bytes) ++ l) behind
-        ∙ ap (λ l. (l ++ (to_be_bytes w16 (length words) ++ words_bytes words)) ++ drop (4 * count) rest) (to_be_bytes-number16 _ _ (fits 0) (fits 1))
-        ∙ ap (λ l. ((get_or bytes 0 0 ∷ get_or bytes 1 0 ∷ []) ++ (l ++ words_bytes words)) ++ drop (4 * count) rest) (ap (to_be_bytes w16) many ∙ to_be_bytes-number16 _ _ (fits 2) (fits 3))
-        ∙ ap (λ l. get_or bytes 0 0 ∷ get_or bytes 1 0 ∷ get_or bytes 2 0 ∷ get_or bytes 3 0 ∷ l) again
-        ∙ sym (front_four bytes four);
+          ap (λ l. extension_bytes (extension_of true bytes) ++ l) behind
+          ∙ ap (λ l. (l ++ (to_be_bytes w16 (length words) ++ words_bytes words)) ++ drop (4 * count) rest) (to_be_bytes-number16 _ _ (fits 0) (fits 1))
+          ∙ ap (λ l. ((get_or bytes 0 0 ∷ get_or bytes 1 0 ∷ []) ++ (l ++ words_bytes words)) ++ drop (4 * count) rest) (ap (to_be_bytes w16) many ∙ to_be_bytes-number16 _ _ (fits 2) (fits 3))
+          ∙ ap (λ l. get_or bytes 0 0 ∷ get_or bytes 1 0 ∷ get_or bytes 2 0 ∷ get_or bytes 3 0 ∷ l) again
+          ∙ sym (front_four bytes four);
       fits = (number16-fits _ _ (fits 0) (fits 1), subst (λ (k : ℕ). k < 2 ^ 16) (sym many) (number16-fits _ _ (fits 2) (fits 3)), words_of-fit count rest (AreBytes-drop 4 bytes fits));
       announced = refl;
       size = omega (arith, tells.is, many);
@@ -170,9 +170,9 @@ extension-refused true bytes e fits is =
           profile_fits = number16-fits _ _ (fits 0) (fits 1);
           count_fits = number16-fits _ _ (fits 2) (fits 3);
           parts =
-            front_four bytes cut.0
-            ∙ sym (ap (λ l. l ++ (to_be_bytes w16 count ++ drop 4 bytes)) (to_be_bytes-number16 _ _ (fits 0) (fits 1))
-            ∙ ap (λ l. (get_or bytes 0 0 ∷ get_or bytes 1 0 ∷ []) ++ (l ++ drop 4 bytes)) (to_be_bytes-number16 _ _ (fits 2) (fits 3)));
+              front_four bytes cut.0
+              ∙ sym (ap (λ l. l ++ (to_be_bytes w16 count ++ drop 4 bytes)) (to_be_bytes-number16 _ _ (fits 0) (fits 1))
+              ∙ ap (λ l. (get_or bytes 0 0 ∷ get_or bytes 1 0 ∷ []) ++ (l ++ drop 4 bytes)) (to_be_bytes-number16 _ _ (fits 2) (fits 3)));
           short = omega (arith, cut.0, cut.1, length-drop 4 bytes);
         });
       }
@@ -267,9 +267,9 @@ padding-read payload (Some zeros) =
       size = padding_with-whole (length bytes) (last_byte bytes) (length padding) (omega (arith, last, long)) (omega (arith, long)) (omega (arith, size, long));
       front = take-front payload padding _ before;
       is = ap Some (
-        ap (take (length padding - 1)) (drop-front payload padding _ before)
-        ∙ take-front zeros ((length zeros + 1) ∷ []) _ (omega (arith, long))
-      );
+          ap (take (length padding - 1)) (drop-front payload padding _ before)
+          ∙ take-front zeros ((length zeros + 1) ∷ []) _ (omega (arith, long))
+          );
     }
 
 -- padding that is read, or none, is there
@@ -294,15 +294,15 @@ padding-there true bytes n fits e =
     let small = fits (length bytes - 1) in
     let count : length zeros ≡ n - 1 = length-take-le (n - 1) tail (omega (arith, tells.is, tells.some, tells.whole, length-drop start bytes)) in
     let last : drop (n - 1) tail ≡ (length zeros + 1) ∷ [] =
-      drop-drop (n - 1) start bytes
-      ∙ ap (λ k. drop k bytes) (omega (arith, tells.is, tells.some, tells.whole))
-      ∙ end_of bytes (omega (arith, tells.some, tells.whole))
-      ∙ ap (λ k. k ∷ []) (omega (arith, tells.is, tells.some, count)) in
+    drop-drop (n - 1) start bytes
+    ∙ ap (λ k. drop k bytes) (omega (arith, tells.is, tells.some, tells.whole))
+    ∙ end_of bytes (omega (arith, tells.some, tells.whole))
+    ∙ ap (λ k. k ∷ []) (omega (arith, tells.is, tells.some, count)) in
     record {
       parts =
-        ap (λ l. take start bytes ++ (zeros ++ l)) (sym last)
-        ∙ ap (λ l. take start bytes ++ l) (take-append-drop (n - 1) tail)
-        ∙ take-append-drop start bytes;
+          ap (λ l. take start bytes ++ (zeros ++ l)) (sym last)
+          ∙ ap (λ l. take start bytes ++ l) (take-append-drop (n - 1) tail)
+          ∙ take-append-drop start bytes;
       fits = omega (arith, count, small, tells.is, tells.some);
       announced = refl;
     }

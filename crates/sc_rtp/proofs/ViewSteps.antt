@@ -53,10 +53,10 @@ passes_csrcs bytes rest behind h n are whole head rest_is version count enough i
     record {
       csrcs = csrcs;
       reads =
-        reading_of-with bytes rest h whole head rest_is
-        ∙ cond_true (h.version == 2) _ (Err Version) (eq-eqb h.version 2 version)
-        ∙ cond_false (nat_lt (length rest) (4 * h.csrc_count)) (Err Csrc) _ (le-ltb (length rest) (4 * h.csrc_count) some)
-        ∙ ap (λ l. with_extension h csrcs l (extension_size h.extended l)) (sym all);
+          reading_of-with bytes rest h whole head rest_is
+          ∙ cond_true (h.version == 2) _ (Err Version) (eq-eqb h.version 2 version)
+          ∙ cond_false (nat_lt (length rest) (4 * h.csrc_count)) (Err Csrc) _ (le-ltb (length rest) (4 * h.csrc_count) some)
+          ∙ ap (λ l. with_extension h csrcs l (extension_size h.extended l)) (sym all);
       count = length-words_of h.csrc_count rest;
       size = omega (arith, ap length all, length-drop (4 * h.csrc_count) rest, ap length rest_is, length-drop 12 bytes);
       fits = subst AreBytes (sym all) (AreBytes-drop (4 * h.csrc_count) rest are_rest);
@@ -104,7 +104,7 @@ holds bytes rest behind payload h n k header p size is padding header_is payload
     let packet : Packet = record { head = h; csrcs = p.csrcs; extension = e; payload = take (length behind - k) behind; padding = padding_of h.padded behind k } in
     let reads : reading_of bytes ≡ Ok packet = with_rest bytes rest behind h n p size is ∙ ap (with_padding h p.csrcs e behind) padding in
     let long : length rest ≡ n + length behind =
-      omega (arith, ap length t.parts, length-append (extension_bytes e) (drop n rest), length-extension_bytes e, t.size, ap length is) in
+    omega (arith, ap length t.parts, length-append (extension_bytes e) (drop n rest), length-extension_bytes e, t.size, ap length is) in
     holds_packet bytes payload h header packet reads refl (sym p.count) (omega (arith, header_is, long, p.size, p.count, t.size)) payload_is
 
 -- from what is read follows what the grammar gives

@@ -69,8 +69,8 @@ with_extension head csrcs bytes (Ok n) =
 abbrev pub with_head : Head → List ℕ → Result Packet NotRtp
 with_head head bytes =
     if head.version == 2 then
-      (if nat_lt (length bytes) (4 * head.csrc_count) then Err Csrc
-      else with_extension head (words_of head.csrc_count bytes) (drop (4 * head.csrc_count) bytes) (extension_size head.extended (drop (4 * head.csrc_count) bytes)))
+    (if nat_lt (length bytes) (4 * head.csrc_count) then Err Csrc
+    else with_extension head (words_of head.csrc_count bytes) (drop (4 * head.csrc_count) bytes) (extension_size head.extended (drop (4 * head.csrc_count) bytes)))
     else Err Version
 
 unfoldable pub reading_of : List ℕ → Result Packet NotRtp

@@ -46,18 +46,10 @@ impl Head {
 
 /// Writes the head of a packet that has no padding, no extension, no CSRC words and no marker. With any payload behind
 /// it, it is read back with these fields.
-pub fn write_head(
-    out: &mut [u8; 12],
-    payload_type: u8,
-    sequence: u16,
-    timestamp: u32,
-    ssrc: u32,
-)
+pub fn write_head(out: &mut [u8; 12], payload_type: u8, sequence: u16, timestamp: u32, ssrc: u32)
     requires { payload_type < 128 }
     ensures head { out.new ≡ head_bytes (plain_head payload_type sequence timestamp ssrc) }
-    ensures read_back {
-        (payload : List ℕ) → reading_of (out.new ++ payload) ≡ Ok (plain_packet (plain_head payload_type sequence timestamp ssrc) payload)
-    }
+    ensures read_back { (payload : List ℕ) → reading_of (out.new ++ payload) ≡ Ok (plain_packet (plain_head payload_type sequence timestamp ssrc) payload) }
 {
     let sequence = sequence.to_be_bytes();
     let timestamp = timestamp.to_be_bytes();

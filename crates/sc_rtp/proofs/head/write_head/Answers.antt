@@ -16,6 +16,6 @@ returns c =
     record {
       head = head;
       read_back = λ payload.
-        ap (λ l. reading_of (l ++ payload)) head
-        ∙ reading_of-plain a.payload_type a.sequence a.timestamp a.ssrc payload c.requires c.ranges.sequence.fits c.ranges.timestamp.fits c.ranges.ssrc.fits;
+          ap (λ l. reading_of (l ++ payload)) head
+          ∙ reading_of-plain a.payload_type a.sequence a.timestamp a.ssrc payload c.requires c.ranges.sequence.fits c.ranges.timestamp.fits c.ranges.ssrc.fits;
     }
