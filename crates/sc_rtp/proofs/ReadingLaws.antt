@@ -224,3 +224,15 @@ pub one_packet : (bytes : List ℕ) (p q : Packet) → IsPacket bytes p → IsPa
 one_packet bytes p q f g =
     let same : (let r : Result Packet NotRtp = Ok p in r) ≡ Ok q = sym (reading_of-packet bytes p f) ∙ reading_of-packet bytes q g in
     cc
+
+-- bytes are refused for one reason at most
+pub one_reason : (bytes : List ℕ) (e f : NotRtp) → IsRefused bytes e → IsRefused bytes f → e ≡ f
+one_reason bytes e f a b =
+    let same : (let r : Result Packet NotRtp = Err e in r) ≡ Err f = sym (reading_of-refused bytes e a) ∙ reading_of-refused bytes f b in
+    cc
+
+-- no packet is refused
+pub packet_accepted : (bytes : List ℕ) (p : Packet) (e : NotRtp) → IsPacket bytes p → IsRefused bytes e → ⊥
+packet_accepted bytes p e f r =
+    let same : (let r : Result Packet NotRtp = Ok p in r) ≡ Err e = sym (reading_of-packet bytes p f) ∙ reading_of-refused bytes e r in
+    cc

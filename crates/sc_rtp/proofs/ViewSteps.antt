@@ -4,11 +4,12 @@ use Rattle.std.proofs.lemmas.Bool.{eq-eqb, le-ltb}
 use Rattle.sc_rtp.specs.declared.head.Head.{Head}
 use Rattle.sc_rtp.specs.declared.not_rtp.NotRtp.{NotRtp}
 use Rattle.sc_rtp.specs.declared.not_rtp.NotRtp.TheVariants.{Short, Version, Csrc}
-use Rattle.sc_rtp.specs.Head.{head_of}
+use Rattle.sc_rtp.specs.Head.{IsHead, head_of}
 use Rattle.sc_rtp.specs.Packet.{Packet, extension_bytes, header_size, plain_packet}
 use Rattle.sc_rtp.specs.Reading.{AreBytes, words_of, extension_size, extension_of, padding_size, padding_of, with_padding, with_extension, with_head, reading_of, packet_or, packet_in, Holds}
 use Rattle.sc_rtp.specs.Refusal.{ReadGives}
 use Rattle.sc_rtp.proofs.WordLaws.{AreBytes-drop, length-words_of}
+use Rattle.sc_rtp.proofs.HeadLaws.{head_of-fits}
 use Rattle.sc_rtp.proofs.PartLaws.{cond_true, cond_false, length-extension_bytes, extension-there}
 use Rattle.sc_rtp.proofs.ReadingLaws.{with_head-other, with_head-few, reading_of-given}
 
@@ -37,6 +38,7 @@ reading_of-few bytes rest h whole head behind version few = reading_of-with byte
 
 -- the head and the CSRC words were passed, and this follows them
 pub record PassesCsrcs (bytes : List ℕ) (h : Head) (rest : List ℕ) : Type 0 where
+  pub head : IsHead h
   pub csrcs : List ℕ
   pub reads : reading_of bytes ≡ with_extension h csrcs rest (extension_size h.extended rest)
   pub count : length csrcs ≡ h.csrc_count
@@ -51,6 +53,7 @@ passes_csrcs bytes rest behind h n are whole head rest_is version count enough i
     let some : 4 * h.csrc_count ≤ length rest = omega arith in
     let are_rest : AreBytes rest = subst AreBytes (sym rest_is) (AreBytes-drop 12 bytes are) in
     record {
+      head = subst IsHead (sym head) (head_of-fits bytes are);
       csrcs = csrcs;
       reads =
           reading_of-with bytes rest h whole head rest_is
@@ -82,13 +85,14 @@ packet_in-ok : (bytes : List ℕ) (p : Packet) → reading_of bytes ≡ Ok p →
 unfolding packet_in
 packet_in-ok bytes p e = ap (packet_or (plain_packet (head_of bytes) _)) e
 
-holds_packet : (bytes payload : List ℕ) (h : Head) (n : ℕ) (p : Packet) → reading_of bytes ≡ Ok p → h ≡ p.head → p.head.csrc_count ≡ length p.csrcs
+holds_packet : (bytes payload : List ℕ) (h : Head) (n : ℕ) (p : Packet) → IsHead h → reading_of bytes ≡ Ok p → h ≡ p.head → p.head.csrc_count ≡ length p.csrcs
     → n ≡ header_size p → payload ≡ p.payload → Holds bytes h n payload
-holds_packet bytes payload h n p reads head csrcs header is =
+holds_packet bytes payload h n p fits reads head csrcs header is =
     let same : p ≡ packet_in bytes = sym (packet_in-ok bytes p reads) in
     record {
       read = reads ∙ ap Ok same;
       head_is = head ∙ ap (λ (q : Packet). q.head) same;
+      fits = fits;
       csrcs = subst (λ (q : Packet). q.head.csrc_count ≡ length q.csrcs) same csrcs;
       header = header ∙ ap header_size same;
       payload_is = is ∙ ap (λ (q : Packet). q.payload) same;
@@ -105,7 +109,7 @@ holds bytes rest behind payload h n k header p size is padding header_is payload
     let reads : reading_of bytes ≡ Ok packet = with_rest bytes rest behind h n p size is ∙ ap (with_padding h p.csrcs e behind) padding in
     let long : length rest ≡ n + length behind =
     omega (arith, ap length t.parts, length-append (extension_bytes e) (drop n rest), length-extension_bytes e, t.size, ap length is) in
-    holds_packet bytes payload h header packet reads refl (sym p.count) (omega (arith, header_is, long, p.size, p.count, t.size)) payload_is
+    holds_packet bytes payload h header packet p.head reads refl (sym p.count) (omega (arith, header_is, long, p.size, p.count, t.size)) payload_is
 
 -- from what is read follows what the grammar gives
 pub gives : (bytes : List ℕ) (r : Result Packet NotRtp) → AreBytes bytes → r ≡ reading_of bytes → ReadGives bytes r

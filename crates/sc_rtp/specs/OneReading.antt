@@ -24,3 +24,11 @@ ReadingsAreRefused = (bytes : List ℕ) (e : NotRtp) → AreBytes bytes → read
 -- bytes are one packet at most
 abbrev pub PacketsAreAlone : Type 0
 PacketsAreAlone = (bytes : List ℕ) (p q : Packet) → IsPacket bytes p → IsPacket bytes q → p ≡ q
+
+-- bytes are refused for one reason at most
+abbrev pub ReasonsAreAlone : Type 0
+ReasonsAreAlone = (bytes : List ℕ) (e f : NotRtp) → IsRefused bytes e → IsRefused bytes f → e ≡ f
+
+-- no packet is refused
+abbrev pub PacketsAreAccepted : Type 0
+PacketsAreAccepted = (bytes : List ℕ) (p : Packet) (e : NotRtp) → IsPacket bytes p → IsRefused bytes e → ⊥

@@ -3,7 +3,7 @@ use Rattle.std.specs.Prelude.{◌≡◌, ℕ, zero, suc, ◌+◌, ◌-◌, ◌*�
 use Rattle.sc_rtp.specs.declared.head.Head.{Head}
 use Rattle.sc_rtp.specs.declared.not_rtp.NotRtp.{NotRtp}
 use Rattle.sc_rtp.specs.declared.not_rtp.NotRtp.TheVariants.{Short, Version, Csrc, Extension, Padding}
-use Rattle.sc_rtp.specs.Head.{number16, number32, head_of}
+use Rattle.sc_rtp.specs.Head.{IsHead, number16, number32, head_of}
 use Rattle.sc_rtp.specs.Packet.{HeaderExtension, Packet, header_size, plain_packet}
 
 -- numbers that are bytes
@@ -88,6 +88,7 @@ packet_in bytes = packet_or (plain_packet (head_of bytes) []) (reading_of bytes)
 pub record Holds (bytes : List ℕ) (head : Head) (header_len : ℕ) (payload : List ℕ) : Type 0 where
   pub read : reading_of bytes ≡ Ok (packet_in bytes)
   pub head_is : head ≡ (packet_in bytes).head
+  pub fits : IsHead head
   pub csrcs : (packet_in bytes).head.csrc_count ≡ length (packet_in bytes).csrcs
   pub header : header_len ≡ header_size (packet_in bytes)
   pub payload_is : payload ≡ (packet_in bytes).payload

@@ -4,10 +4,10 @@ ghost use Rattle.sc_rtp.specs.Head.{head_bytes, head_of};
 ghost use Rattle.sc_rtp.specs.Packet.{plain_head, plain_packet};
 ghost use Rattle.sc_rtp.specs.Reading.{reading_of};
 
-/// The bytes of the fixed head.
+// The bytes of the fixed head.
 pub(crate) const FIXED: usize = 12;
 
-/// The fields of the fixed head.
+// The fields of the fixed head.
 #[derive(Clone, Copy, Debug, PartialEq, Eq)]
 pub(crate) struct Head {
     pub version: u8,
@@ -22,7 +22,7 @@ pub(crate) struct Head {
 }
 
 impl Head {
-    /// The head with which a packet begins.
+    // The head with which a packet begins.
     #[tactic(auto, unfolding(crate::specs::Head::head_of))]
     pub(crate) fn of(packet: &[u8]) -> Head
         requires { 12 ≤ length packet.now }

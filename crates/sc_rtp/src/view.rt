@@ -1,5 +1,5 @@
 //! The reader of a packet.
-ghost use Rattle.std.specs.Prelude.{◌≡◌, length};
+ghost use Rattle.std.specs.Prelude.{◌≡◌, ◌<◌, length};
 ghost use Rattle.sc_rtp.specs.Packet.{header_size};
 ghost use Rattle.sc_rtp.specs.Refusal.{ReadGives};
 ghost use Rattle.sc_rtp.specs.Reading.{reading_of, extension_size, padding_size};
@@ -8,7 +8,7 @@ use super::head::{FIXED, Head};
 use super::not_rtp::NotRtp;
 use std::marker::Model;
 
-/// The bytes of a CSRC word, or of a word of an extension.
+// The bytes of a CSRC word, or of a word of an extension.
 const WORD: usize = 4;
 
 /// An RTP packet (RFC 3550, 5.1), seen in the bytes that were read. It takes no memory.
@@ -31,8 +31,8 @@ impl<'a> Model for RtpView<'a> {
     ghost invariant = { λ v. Holds v.packet.now v.head v.header_len v.payload.now };
 }
 
-/// The bytes of the extension with which `rest` begins: none where none is announced. `Extension` comes where it isn't
-/// all there.
+// The bytes of the extension with which `rest` begins: none where none is announced. `Extension` comes where it isn't
+// all there.
 fn extension_len(extended: bool, rest: &[u8]) -> Result<usize, NotRtp>
     ensures { result ≡ extension_size extended rest.now }
 {
@@ -50,8 +50,8 @@ fn extension_len(extended: bool, rest: &[u8]) -> Result<usize, NotRtp>
     Ok(len)
 }
 
-/// The bytes of padding at the end of what follows a header: none where none is announced. `Padding` comes where no
-/// byte is there, or the last byte, which counts them, is 0 or greater than their number.
+// The bytes of padding at the end of what follows a header: none where none is announced. `Padding` comes where no
+// byte is there, or the last byte, which counts them, is 0 or greater than their number.
 fn padding_len(padded: bool, rest: &[u8]) -> Result<usize, NotRtp>
     ensures { result ≡ padding_size padded rest.now }
 {
@@ -106,7 +106,8 @@ impl<'a> RtpView<'a> {
 
     /// The payload type, below 128.
     pub fn payload_type(&self) -> u8
-        ensures { result ≡ self.now.head.payload_type }
+        ensures value { result ≡ self.now.head.payload_type }
+        ensures small { result < 128 }
     {
         self.head.payload_type
     }
@@ -134,7 +135,8 @@ impl<'a> RtpView<'a> {
 
     /// The number of CSRC words, at most 15.
     pub fn csrc_count(&self) -> u8
-        ensures { result ≡ length self.now.csrcs }
+        ensures value { result ≡ length self.now.csrcs }
+        ensures small { result < 16 }
     {
         self.head.csrc_count
     }
