@@ -33,6 +33,10 @@ abbrev pub padding_bytes : Option (List ℕ) → List ℕ
 padding_bytes None = []
 padding_bytes (Some bytes) = bytes ++ (length bytes + 1) ∷ []
 
+-- how a packet is spelled: its parts, one after the other
+abbrev pub packet_bytes : Packet → List ℕ
+packet_bytes p = head_bytes p.head ++ (words_bytes p.csrcs ++ (extension_bytes p.extension ++ (p.payload ++ padding_bytes p.padding)))
+
 -- numbers of 32 bits
 abbrev pub AreWords : List ℕ → Type 0
 AreWords words = AllByRecursion (λ w. w < 2 ^ 32) words
@@ -57,7 +61,7 @@ pub record IsPacket (bytes : List ℕ) (p : Packet) : Type 0 where
   pub extension : IsExtension p.extension
   pub padded : is_some p.padding ≡ p.head.padded
   pub padding : IsPadding p.padding
-  pub parts : bytes ≡ head_bytes p.head ++ (words_bytes p.csrcs ++ (extension_bytes p.extension ++ (p.payload ++ padding_bytes p.padding)))
+  pub parts : bytes ≡ packet_bytes p
 
 -- the bytes of a header: the fixed head, the CSRC words, and the extension with its four bytes before the words
 abbrev pub extension_len : Option HeaderExtension → ℕ

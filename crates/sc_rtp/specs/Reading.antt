@@ -1,5 +1,5 @@
 -- The reading of bytes as a packet, part by part.
-use Rattle.std.specs.Prelude.{◌≡◌, ℕ, zero, suc, ◌+◌, ◌-◌, ◌*◌, ◌<◌, ◌==◌, Bool, true, false, nat_lt, Option, Some, None, List, [], ◌∷◌, length, take, drop, slice_index, Result, Ok, Err, if◌then◌else◌}
+use Rattle.std.specs.Prelude.{◌≡◌, ℕ, zero, suc, ◌+◌, ◌-◌, ◌*◌, ◌<◌, ◌==◌, Bool, true, false, nat_lt, Option, Some, None, List, [], ◌∷◌, ◌++◌, length, take, drop, slice_index, Result, Ok, Err, if◌then◌else◌}
 use Rattle.sc_rtp.specs.declared.head.Head.{Head}
 use Rattle.sc_rtp.specs.declared.not_rtp.NotRtp.{NotRtp}
 use Rattle.sc_rtp.specs.declared.not_rtp.NotRtp.TheVariants.{Short, Version, Csrc, Extension, Padding}
@@ -73,8 +73,13 @@ with_head head bytes =
     else with_extension head (words_of head.csrc_count bytes) (drop (4 * head.csrc_count) bytes) (extension_size head.extended (drop (4 * head.csrc_count) bytes)))
     else Err Version
 
+-- the reading of bytes: the parts of the packet that they are, or the first reason why they are none
 unfoldable pub reading_of : List ℕ → Result Packet NotRtp
 reading_of bytes = if nat_lt (length bytes) 12 then Err Short else with_head (head_of bytes) (drop 12 bytes)
+
+-- bytes are read back as this head, whatever payload stands behind them
+abbrev pub ReadsBack : List ℕ → Head → Type 0
+ReadsBack bytes head = (payload : List ℕ) → reading_of (bytes ++ payload) ≡ Ok (plain_packet head payload)
 
 -- the packet that bytes are, where they are one
 abbrev pub packet_or : Packet → Result Packet NotRtp → Packet

@@ -1,8 +1,8 @@
 //! The fixed head of a packet: its first 12 bytes (RFC 3550, 5.1).
-ghost use Rattle.std.specs.Prelude.{◌≡◌, ◌<◌, ◌≤◌, ◌++◌, List, ℕ, length};
+ghost use Rattle.std.specs.Prelude.{◌≡◌, ◌<◌, ◌≤◌, length};
 ghost use Rattle.sc_rtp.specs.Head.{head_bytes, head_of};
-ghost use Rattle.sc_rtp.specs.Packet.{plain_head, plain_packet};
-ghost use Rattle.sc_rtp.specs.Reading.{reading_of};
+ghost use Rattle.sc_rtp.specs.Packet.{plain_head};
+ghost use Rattle.sc_rtp.specs.Reading.{ReadsBack};
 
 // The bytes of the fixed head.
 pub(crate) const FIXED: usize = 12;
@@ -49,7 +49,7 @@ impl Head {
 pub fn write_head(out: &mut [u8; 12], payload_type: u8, sequence: u16, timestamp: u32, ssrc: u32)
     requires { payload_type < 128 }
     ensures head { out.new ≡ head_bytes (plain_head payload_type sequence timestamp ssrc) }
-    ensures read_back { (payload : List ℕ) → reading_of (out.new ++ payload) ≡ Ok (plain_packet (plain_head payload_type sequence timestamp ssrc) payload) }
+    ensures read_back { ReadsBack out.new (plain_head payload_type sequence timestamp ssrc) }
 {
     let sequence = sequence.to_be_bytes();
     let timestamp = timestamp.to_be_bytes();
