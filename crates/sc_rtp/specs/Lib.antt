@@ -1,0 +1,5 @@
+pub mod Head
+pub mod OneReading
+pub mod Packet
+pub mod Reading
+pub mod Refusal
