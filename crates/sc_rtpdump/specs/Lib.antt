@@ -1,6 +1,7 @@
 pub mod Capture
 pub mod DumpRecord
 pub mod Head
+pub mod Kind
 pub mod Next
 pub mod OneReading
 pub mod Preamble

@@ -3,6 +3,7 @@
 
 mod fault;
 mod head;
+mod kind;
 mod next;
 mod preamble;
 mod reading_laws;
@@ -10,6 +11,7 @@ mod record;
 mod thin;
 
 pub use fault::DumpFault;
+pub use kind::{Kind, kind_of};
 pub use next::{next_record, write_record};
 pub use preamble::{Preamble, read_preamble};
 pub use reading_laws::one_reading;

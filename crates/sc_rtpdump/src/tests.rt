@@ -114,6 +114,52 @@ fn writes_records(rt: HostRuntime) -> Result<(), Fail> {
     Ok(())
 }
 
+// Writes a record, reads it back, and gives its kind.
+fn kind_of_written(alloc: Global, plen: u16, body: &[u8]) -> Result<Option<Kind>, NoMemory>
+    requires { length body.now ≤ MAX_BODY }
+{
+    let none = Vec::new(alloc);
+    let mut port = MemoryPort::new(alloc, none, 100, 1000, 100, Vec::new(alloc))?;
+    if write_record(&mut port, 5, plen, body).is_err() {
+        return Ok(None);
+    }
+    let written = port.given().to_vec(alloc)?;
+    let mut port = MemoryPort::new(alloc, written, 0, 1000, 7, Vec::new(alloc))?;
+    let mut record = DumpRecord::start(alloc)?;
+    match next_record(&mut port, 0, &mut record) {
+        Ok(true) => Ok(Some(kind_of(&record))),
+        _ => Ok(None),
+    }
+}
+
+#[test]
+fn tells_kinds(rt: HostRuntime) -> Result<(), Fail> {
+    for (plen, body, want) in [
+        (0, b"".as_slice(), Kind::Rtcp),
+        // true length 0 and a packet of RTP
+        (0, b"\x80\0\0\0\0\0\0\0\0\0\0\0".as_slice(), Kind::Rtcp),
+        (1, b"".as_slice(), Kind::Cut),
+        // a byte less than there was, of a packet and of what is none
+        (13, b"\x80\0\0\0\0\0\0\0\0\0\0\0".as_slice(), Kind::Cut),
+        (13, b"\x40\0\0\0\0\0\0\0\0\0\0\0".as_slice(), Kind::Cut),
+        // a byte more
+        (11, b"\x80\0\0\0\0\0\0\0\0\0\0\0".as_slice(), Kind::Strange),
+        // version 1, and a head that isn't whole
+        (12, b"\x40\0\0\0\0\0\0\0\0\0\0\0".as_slice(), Kind::Strange),
+        (11, b"\x80\0\0\0\0\0\0\0\0\0\0".as_slice(), Kind::Strange),
+        (12, b"\x80\0\0\0\0\0\0\0\0\0\0\0".as_slice(), Kind::Rtp),
+        (
+            14,
+            b"\xa0\0\0\0\0\0\0\0\0\0\0\0\xaa\x01".as_slice(),
+            Kind::Rtp,
+        ),
+    ] {
+        let kind = kind_of_written(rt.alloc(), plen, body)?;
+        assert_eq!(rt; kind, Some(want), "true length {plen}, {body:?}");
+    }
+    Ok(())
+}
+
 // Thins the preamble and `records` without the second of three records, and compares the answer and what stands behind the
 // preamble then.
 fn thins(
