@@ -1,0 +1,16 @@
+pub mod DotLaws
+pub mod Settle
+pub mod RowOperations
+pub mod AddRow
+pub mod Insert
+pub mod ForgetFront
+pub mod ValueOf
+pub mod Bytes
+pub mod KnowledgeLaws
+pub mod Ring
+pub mod StorageLaws
+pub mod StoredSteps
+pub mod AddWork
+pub mod StoredForget
+pub mod NumberRows
+pub mod StoredStart

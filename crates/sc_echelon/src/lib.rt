@@ -1,0 +1,9 @@
+//! Systems of linear equations over a finite field, and what they determine.
+#![tactic(auto)]
+
+mod equation;
+mod knowledge;
+mod table;
+
+pub use knowledge::{Added, Knowledge, MAX_BYTES, MAX_COLS};
+
