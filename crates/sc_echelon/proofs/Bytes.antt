@@ -1,8 +1,8 @@
 -- The byte strings of one width are a module over a field whose elements act on bytes.
-use Rattle.std.proofs.Common.{◌≡◌, ◌≢◌, ℕ, ◌<◌, List, get_or, replicate, sym, ◌∙◌, ap, arith}
+use Rattle.std.proofs.Common.{◌≡◌, ◌≢◌, ℕ, ◌<◌, List, get_or, replicate, ap, arith}
 use Rattle.std.proofs.lemmas.List.{get_or-replicate}
 use Rattle.sc_field.specs.Field.{IsAction}
-use Rattle.sc_matrix.specs.Module.{IsModule, IsByte}
+use Rattle.sc_matrix.specs.Module.{IsModule}
 use Rattle.sc_matrix.proofs.VectorLaws.{IsVector-replicate}
 use Rattle.sc_matrix.proofs.Modules.{byte_module, vector_module}
 use Rattle.sc_echelon.specs.Knowledge.{IsBytes, zero_bytes, xor_bytes, act_bytes}

@@ -1,12 +1,12 @@
 -- Coefficients kept as their numbers: what is read of the numbers holds of the elements.
-use Rattle.std.proofs.Common.{◌≡◌, ◌≢◌, ◌↔◌, ℕ, ◌+◌, ◌<◌, ◌≤◌, List, [], ◌∷◌, ◌++◌, bit_xor, All, Option, None, Some, MatchOption, length, get_or, set, map, take, drop, sym, ◌∙◌, ap, ap₂, append_assoc, subst, arith}
-use Rattle.std.proofs.lemmas.List.{length-map, length-take-le, get_or-map, get_or_at, set_at, drop_more, take_more, map-append, take-map, drop-map, map-id}
+use Rattle.std.proofs.Common.{◌≡◌, ◌≢◌, ◌↔◌, ℕ, ◌+◌, ◌<◌, List, [], ◌∷◌, ◌++◌, bit_xor, All, Option, None, Some, MatchOption, length, get_or, set, map, take, drop, sym, ◌∙◌, ap, ap₂, append_assoc, subst, arith}
+use Rattle.std.proofs.lemmas.List.{length-map, length-take-le, get_or-map, set_at, drop_more, take_more, map-append, take-map, drop-map, map-id}
 use Rattle.std.proofs.lemmas.List.Elements.{All-append, All-take, All-drop, All-map}
 use Rattle.sc_field.specs.Field.{IsField, IsAction, IsNumbered, IsNumber}
 use Rattle.sc_field.specs.Scale.{scaled_sum}
 use Rattle.sc_field.specs.ActionLemmas.{is_number}
 use Rattle.sc_matrix.specs.Vector.{IsVector, add_vectors, scale_vector}
-use Rattle.sc_matrix.proofs.VectorLaws.{vector_of, map-map, map_same, IsVector-map, IsVector-add_vectors, length-scale_vector}
+use Rattle.sc_matrix.proofs.VectorLaws.{vector_of, map-map, map_same, IsVector-map, IsVector-add_vectors}
 use Rattle.sc_matrix.proofs.ByteSteps.{scaled_sum_is}
 use Rattle.sc_matrix.proofs.NumberLaws.{number_module, elements-add, elements-times, element-zero_iff}
 use Rattle.sc_echelon.specs.Equation.{Row}

@@ -3,7 +3,7 @@ use Rattle.std.proofs.Common.{◌≡◌, ℕ, zero as naught, suc, ◌<◌, Bool
 use Rattle.std.proofs.lemmas.List.{length-replicate}
 use Rattle.sc_field.specs.Field.{IsField, IsAction}
 use Rattle.sc_echelon.specs.Equation.{Row}
-use Rattle.sc_echelon.specs.Knowledge.{Knowledge, nothing_known}
+use Rattle.sc_echelon.specs.Knowledge.{nothing_known}
 use Rattle.sc_echelon.specs.Kept.{known_by, IsKept}
 use Rattle.sc_echelon.specs.Table.{rows_of}
 use Rattle.sc_echelon.specs.Storage.{table_of, IsStored}

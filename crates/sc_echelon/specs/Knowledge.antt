@@ -1,6 +1,6 @@
 -- What is known of the byte strings at some columns: all equations that were told, each a coefficient for each column
 -- and a right side. What it means is its set of solutions.
-use Rattle.std.specs.Prelude.{◌≡◌, ◌≢◌, ◌↔◌, ℕ, ◌-◌, ◌<◌, List, [], ◌++◌, length, map, take, replicate, All, bit_xor, slice_index_or}
+use Rattle.std.specs.Prelude.{◌≡◌, ◌≢◌, ◌↔◌, ℕ, ◌-◌, List, [], ◌++◌, take, replicate, bit_xor, slice_index_or}
 use Rattle.sc_matrix.specs.Module.{IsByte}
 use Rattle.sc_matrix.specs.Vector.{IsVector, add_vectors, scale_vector}
 use Rattle.sc_echelon.specs.Equation.{Row, Meets, Solves}

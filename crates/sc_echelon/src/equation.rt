@@ -77,7 +77,7 @@ impl<F: Field> Equation<F> {
     pub(crate) fn first_nonzero(&self) -> Option<usize>
         ensures { MatchOption result ((j : ℕ) → j < length self.now.coeffs → slice_index_or self.now.coeffs j F.zero ≡ F.zero)
             (λ p. (p < length self.now.coeffs) × (slice_index_or self.now.coeffs p F.zero ≢ F.zero)
-                × ((j : ℕ) → j < p → slice_index_or self.now.coeffs j F.zero ≡ F.zero)) }
+            × ((j : ℕ) → j < p → slice_index_or self.now.coeffs j F.zero ≡ F.zero)) }
     {
         first_nonzero(self.numbers.as_slice())
     }

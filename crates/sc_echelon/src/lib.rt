@@ -7,3 +7,5 @@ mod table;
 
 pub use knowledge::{Added, Knowledge, MAX_BYTES, MAX_COLS};
 
+#[cfg(test)]
+mod tests;

@@ -1,5 +1,5 @@
-use Rattle.std.proofs.Common.{◌≡◌, length, map, take, drop, set, subst, ◌∙◌, ap, arith}
-use Rattle.std.proofs.lemmas.List.Elements.{All-more, All-same}
+use Rattle.std.proofs.Common.{set, subst, ◌∙◌, ap, arith}
+use Rattle.std.proofs.lemmas.List.Elements.{All-more}
 use Rattle.sc_echelon.proofs.NumberRows.{write_more}
 use Rattle.sc_echelon.proofs.equation.write_numbers.Goals as goal
 

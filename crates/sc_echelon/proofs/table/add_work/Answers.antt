@@ -1,4 +1,4 @@
-use Rattle.std.proofs.Common.{◌≡◌, length, refl, sym, ◌∙◌, ap}
+use Rattle.std.proofs.Common.{length, refl, sym, ◌∙◌}
 use Rattle.sc_echelon.specs.Storage.{table_of}
 use Rattle.sc_echelon.proofs.AddWork.{found_new, found_adds, found_kept, none_known, none_clash}
 use Rattle.sc_echelon.proofs.table.add_work.Goals as goal

@@ -1,5 +1,4 @@
-use Rattle.std.proofs.Common.{◌≡◌, length, get_or, sym, ◌∙◌, ap, ap₂, arith}
-use Rattle.std.proofs.lemmas.List.{get_or_default}
+use Rattle.std.proofs.Common.{◌≡◌, get_or, sym, ◌∙◌, ap₂, arith}
 use Rattle.sc_echelon.proofs.Bytes.{bytes_module}
 use Rattle.sc_echelon.proofs.StoredSteps.{stored_row, left_on, left_off}
 use Rattle.sc_echelon.proofs.table.clear_at_pivots.Goals as goal

@@ -1,5 +1,5 @@
 use Rattle.std.proofs.Common.{◌≡◌, ◌+◌, ◌<◌, length, get_or, set, subst, sym, ◌∙◌, ap, ap₂, arith}
-use Rattle.std.proofs.lemmas.List.{get_or_default, length-map}
+use Rattle.std.proofs.lemmas.List.{length-map}
 use Rattle.std.proofs.lemmas.List.Elements.{All-set, All-same}
 use Rattle.sc_matrix.specs.Vector.{scale_vector}
 use Rattle.sc_matrix.proofs.VectorLaws.{length-add_vectors, length-scale_vector}

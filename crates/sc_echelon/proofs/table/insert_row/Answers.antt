@@ -1,5 +1,5 @@
-use Rattle.std.proofs.Common.{◌≡◌, true, length, get_or, set, ◌∙◌, ap, arith}
-use Rattle.std.proofs.lemmas.List.{get_or_default, length-map}
+use Rattle.std.proofs.Common.{◌≡◌, true, length, set, ◌∙◌, ap, arith}
+use Rattle.std.proofs.lemmas.List.{length-map}
 use Rattle.std.proofs.lemmas.List.Elements.{All-set}
 use Rattle.sc_matrix.proofs.VectorLaws.{length-scale_vector}
 use Rattle.sc_echelon.specs.Steps.{times_row, insert, led}
