@@ -1,11 +1,19 @@
 -- What is read of the reduced row decides the answer.
 use Rattle.std.proofs.Common.{◌≡◌, ◌≢◌, ℕ, ◌<◌, List, length, get_or, Option, sym, ◌∙◌, ap, subst, arith}
 use Rattle.sc_field.specs.Field.{IsField, IsAction}
-use Rattle.sc_echelon.specs.Equation.{Row}
-use Rattle.sc_echelon.specs.Steps.{IsLeft, insert, led}
+use Rattle.sc_echelon.specs.Equation.{Row, IsRow}
+use Rattle.sc_echelon.specs.Steps.{IsLeft, insert, led, reduce}
 use Rattle.sc_echelon.specs.Kept.{known_by, IsKept}
 use Rattle.sc_echelon.specs.Knowledge.{IsBytes, zero_bytes, xor_bytes, act_bytes, Follows, Contradicts, Adds}
+use Rattle.sc_echelon.proofs.Bytes.{bytes_module}
+use Rattle.sc_echelon.proofs.AddRow.{left-reduce}
 use Rattle.sc_echelon.proofs.KnowledgeLaws.{added_known, added_clash, added_new, adds_new, kept_new}
+
+pub left_reduced : {A : Type 0} {IsElement : A → Type 0} {zero one : A} {add sub mul : A → A → A} {inv : A → A} {act : A → ℕ → ℕ} (laws : IsField IsElement zero one add sub mul inv) (action : IsAction IsElement zero one add mul act)
+    (n w : ℕ) (t : List (Option (Row A (List ℕ)))) → IsKept IsElement zero one n w t → (q m : Row A (List ℕ)) → IsRow IsElement (IsBytes w) n q → m ≡ reduce zero add sub mul xor_bytes (act_bytes act) t n q
+    → IsLeft IsElement zero (IsBytes w) (zero_bytes w) xor_bytes (act_bytes act) n t q n m
+left_reduced {IsElement = IsElement} {zero = zero} {act = act} laws action n w t kept q m hq e =
+    subst (λ (r : Row _ (List ℕ)). IsLeft IsElement zero (IsBytes w) (zero_bytes w) xor_bytes (act_bytes act) n t q n r) (sym e) (left-reduce laws (bytes_module action w) n t q n kept.reduced hq)
 
 module _ {A : Type 0} {IsElement : A → Type 0} {zero one : A} {add sub mul : A → A → A} {inv : A → A} {act : A → ℕ → ℕ} (laws : IsField IsElement zero one add sub mul inv) (action : IsAction IsElement zero one add mul act)
     (n w : ℕ) (t : List (Option (Row A (List ℕ)))) (kept : IsKept IsElement zero one n w t) (q m : Row A (List ℕ)) (left : IsLeft IsElement zero (IsBytes w) (zero_bytes w) xor_bytes (act_bytes act) n t q n m) (xs : List A) (same : xs ≡ m.coeffs) where

@@ -14,3 +14,8 @@ pub mod AddWork
 pub mod StoredForget
 pub mod NumberRows
 pub mod StoredStart
+pub mod KernelLaws
+pub mod KernelUnique
+pub mod ReducedSteps
+pub mod ReducedLaws
+pub mod StoredReduced

@@ -1,6 +1,6 @@
 -- Coefficients kept as their numbers: what is read of the numbers holds of the elements.
-use Rattle.std.proofs.Common.{◌≡◌, ◌≢◌, ◌↔◌, ℕ, ◌+◌, ◌<◌, List, [], ◌∷◌, ◌++◌, bit_xor, All, Option, None, Some, MatchOption, length, get_or, set, map, take, drop, sym, ◌∙◌, ap, ap₂, append_assoc, subst, arith}
-use Rattle.std.proofs.lemmas.List.{length-map, length-take-le, get_or-map, set_at, drop_more, take_more, map-append, take-map, drop-map, map-id}
+use Rattle.std.proofs.Common.{◌≡◌, ◌≢◌, ◌↔◌, ℕ, ◌+◌, ◌<◌, List, [], ◌∷◌, ◌++◌, bit_xor, All, Option, None, Some, inl, inr, MatchOption, length, get_or, set, map, take, drop, sym, ◌∙◌, ap, ap₂, append_assoc, subst, arith}
+use Rattle.std.proofs.lemmas.List.{get_or_past, length-map, length-take-le, get_or-map, set_at, drop_more, take_more, map-append, take-map, drop-map, map-id}
 use Rattle.std.proofs.lemmas.List.Elements.{All-append, All-take, All-drop, All-map}
 use Rattle.sc_field.specs.Field.{IsField, IsAction, IsNumbered, IsNumber}
 use Rattle.sc_field.specs.Scale.{scaled_sum}
@@ -10,6 +10,8 @@ use Rattle.sc_matrix.proofs.VectorLaws.{vector_of, map-map, map_same, IsVector-m
 use Rattle.sc_matrix.proofs.ByteSteps.{scaled_sum_is}
 use Rattle.sc_matrix.proofs.NumberLaws.{number_module, elements-add, elements-times, element-zero_iff}
 use Rattle.sc_echelon.specs.Equation.{Row}
+use Rattle.std.proofs.lemmas.Bool.{cases_lt}
+use Rattle.sc_echelon.specs.Echelon.{IsLastNonzero}
 use Rattle.sc_echelon.specs.Ring.{rotate}
 
 module _ {A : Type 0} {IsElement : A → Type 0} {zero one : A} {add sub mul : A → A → A} {inv : A → A} {act : A → ℕ → ℕ} {number : A → ℕ} {element : ℕ → A} (laws : IsField IsElement zero one add sub mul inv) (action : IsAction IsElement zero one add mul act) (numbered : IsNumbered IsElement zero one number element) (by_number : (x : A) → IsElement x → act x 1 ≡ number x) where
@@ -34,6 +36,21 @@ module _ {A : Type 0} {IsElement : A → Type 0} {zero one : A} {add sub mul : A
       let within = m.0 in
       subst (λ (xs : List A). (p < length xs) × (get_or xs p zero ≢ zero) × ((j : ℕ) → j < p → get_or xs j zero ≡ zero)) e
       (omega arith, λ z. m.1 ((entry-zero ns p h within).0 z), λ j l. (entry-zero ns j h (omega arith)).1 (m.2 j l))
+
+  pub last_found : (ns : List ℕ) (cs : List A) → map element ns ≡ cs → All Number ns → (o : Option ℕ) → IsLastNonzero ns (length ns) o
+      → MatchOption o ((j : ℕ) → j < length cs → get_or cs j zero ≡ zero) (λ p. (p < length cs) × (get_or cs p zero ≢ zero) × ((j : ℕ) → p < j → get_or cs j zero ≡ zero))
+  last_found ns cs e h None m = subst (λ (xs : List A). (j : ℕ) → j < length xs → get_or xs j zero ≡ zero) e (λ j l. let n = length-map ns element in (entry-zero ns j h (omega arith)).1 (m j (omega arith)))
+  last_found ns cs e h (Some p) m =
+      let n = length-map ns element in
+      let within = m.0 in
+      subst (λ (xs : List A). (p < length xs) × (get_or xs p zero ≢ zero) × ((j : ℕ) → p < j → get_or xs j zero ≡ zero)) e (
+        omega arith,
+        λ z. m.1 ((entry-zero ns p h within).0 z),
+        λ j l. elim (cases_lt j (length ns)) [
+          | inl a ↦ (entry-zero ns j h a).1 (m.2 j l a)
+          | inr past ↦ get_or_past (map element ns) j zero (omega arith)
+        ],
+      )
 
   pub another_found : (ns : List ℕ) (cs : List A) (col : ℕ) → map element ns ≡ cs → All Number ns → (o : Option ℕ)
       → MatchOption o ((j : ℕ) → j < length ns → j ≢ col → get_or ns j 0 ≡ 0) (λ p. (p < length ns) × (p ≢ col) × (get_or ns p 0 ≢ 0))

@@ -1,14 +1,13 @@
 -- The steps of the loops that work on stored rows.
-use Rattle.std.proofs.Common.{◌≡◌, ℕ, suc, ◌+◌, ◌<◌, Bool, true, false, List, length, get_or, set, None, Some, refl, sym, ◌∙◌, ap, subst, arith}
+use Rattle.std.proofs.Common.{◌≡◌, ℕ, suc, ◌+◌, ◌<◌, Bool, true, false, List, length, get_or, set, All, Option, None, Some, refl, sym, ◌∙◌, ap, subst, arith}
 use Rattle.std.proofs.lemmas.List.{get_or_default}
-use Rattle.sc_field.specs.Field.{IsField}
-use Rattle.sc_matrix.specs.Module.{IsModule}
-use Rattle.sc_echelon.specs.Equation.{Row, IsRow}
-use Rattle.sc_echelon.specs.Table.{slot, IsReduced}
-use Rattle.sc_echelon.specs.Steps.{plus_row, clear_at, IsLeft}
+use Rattle.sc_matrix.specs.Vector.{add_vectors, scale_vector}
+use Rattle.sc_matrix.proofs.VectorLaws.{length-add_vectors, length-scale_vector}
+use Rattle.sc_echelon.specs.Equation.{Row}
+use Rattle.sc_echelon.specs.Table.{slot}
+use Rattle.sc_echelon.specs.Steps.{plus_row, clear_at, cleared, eliminate, reduce}
 use Rattle.sc_echelon.specs.Storage.{place, table_of, ChangedBelow}
 use Rattle.sc_echelon.proofs.StorageLaws.{slot-table_of, changed_on, changed_off}
-use Rattle.sc_echelon.proofs.AddRow.{left_free, left_pivot}
 
 module _ {X : Type 0} (used : List Bool) (rows : List X) (count : length rows ≡ length used) where
   pub slot_on : (k : ℕ) (r : X) → k < length used → get_or used k false ≡ true → r ≡ get_or rows k r → slot (table_of used rows) k ≡ Some r
@@ -17,27 +16,33 @@ module _ {X : Type 0} (used : List Bool) (rows : List X) (count : length rows �
   pub slot_off : (k : ℕ) (d : X) → k < length used → get_or used k false ≡ false → slot (table_of used rows) k ≡ None
   slot_off k d l off = slot-table_of used rows k d count l ∙ ap (λ (b : Bool). place b (get_or rows k d)) off
 
-module _ {A V : Type 0} {IsElement : A → Type 0} {zero one : A} {add sub mul : A → A → A} {inv : A → A} {IsValue : V → Type 0} {none : V} {plus : V → V → V} {times : A → V → V} (laws : IsField IsElement zero one add sub mul inv) (ml : IsModule IsElement zero one add mul IsValue none plus times)
-    (used : List Bool) (rows : List (Row A V)) (count : length rows ≡ length used) (form : IsReduced IsElement zero one IsValue (length used) (table_of used rows)) (q : Row A V) where
-  -- a stored row in use has the width and the values of the table's
-  pub stored_row : (k : ℕ) (r : Row A V) → k < length used → get_or used k false ≡ true → r ≡ get_or rows k r → IsRow IsElement IsValue (length used) r
-  stored_row k r l on is = form.rows k r (slot_on used rows count k r l on is)
+-- ---- a row is reduced
+pub width_at : {X : Type 0} (size : X → ℕ) (n : ℕ) (rows : List X) (k : ℕ) (r : X) → k < length rows → r ≡ get_or rows k r → All (λ x. size x ≡ n) rows → size r ≡ n
+width_at size n rows k r l is all = ap size is ∙ all k r l
 
-  pub left_on : (k : ℕ) (m r new : Row A V) (x : A) → k < length used → get_or used k false ≡ true → r ≡ get_or rows k r → x ≡ sub zero (get_or m.coeffs k zero) → new ≡ plus_row add mul plus times m x r
-      → IsLeft IsElement zero IsValue none plus times (length used) (table_of used rows) q k m → IsLeft IsElement zero IsValue none plus times (length used) (table_of used rows) q (k + 1) new
-  left_on k m r new x l on is ex en h =
-      let e : k + 1 ≡ suc k = omega arith in
-      subst (λ (j : ℕ). IsLeft IsElement zero IsValue none plus times (length used) (table_of used rows) q j new) (sym e)
-      (subst (λ (s : Row A V). IsLeft IsElement zero IsValue none plus times (length used) (table_of used rows) q (suc k) s) (sym (en ∙ ap (λ (y : A). plus_row add mul plus times m y r) ex))
-      (left_pivot laws ml (length used) (table_of used rows) q k m r form (slot_on used rows count k r l on is) h))
+module _ {A V : Type 0} (zero : A) (add sub mul : A → A → A) (plus : V → V → V) (times : A → V → V) (t : List (Option (Row A V))) (q m : Row A V) where
+  pub reduce_on : (r new : Row A V) (k : ℕ) (x : A) → slot t k ≡ Some r → m ≡ reduce zero add sub mul plus times t k q → x ≡ sub zero (get_or m.coeffs k zero) → new ≡ plus_row add mul plus times m x r → new ≡ reduce zero add sub mul plus times t (k + 1) q
+  reduce_on r new k x full em ex en =
+      en ∙ ap (λ (y : A). plus_row add mul plus times m y r) ex ∙ ap (λ (s : Row A V). cleared zero add sub mul plus times s k r) em
+      ∙ ap (λ (o : Option (Row A V)). eliminate zero add sub mul plus times o k (reduce zero add sub mul plus times t k q)) (sym full)
+      ∙ ap (λ (j : ℕ). reduce zero add sub mul plus times t j q) (next k) where
+        next : (i : ℕ) → suc i ≡ i + 1
+        next i = omega arith
 
-  pub left_off : (k : ℕ) (m new : Row A V) → k < length used → get_or used k false ≡ false → new ≡ m
-      → IsLeft IsElement zero IsValue none plus times (length used) (table_of used rows) q k m → IsLeft IsElement zero IsValue none plus times (length used) (table_of used rows) q (k + 1) new
-  left_off k m new l off en h =
-      let e : k + 1 ≡ suc k = omega arith in
-      subst (λ (j : ℕ). IsLeft IsElement zero IsValue none plus times (length used) (table_of used rows) q j new) (sym e)
-      (subst (λ (s : Row A V). IsLeft IsElement zero IsValue none plus times (length used) (table_of used rows) q (suc k) s) (sym en)
-      (left_free laws ml (length used) (table_of used rows) q k m (slot_off used rows count k m l off) h))
+  pub reduce_off : (new : Row A V) (k : ℕ) → slot t k ≡ None → m ≡ reduce zero add sub mul plus times t k q → new ≡ m → new ≡ reduce zero add sub mul plus times t (k + 1) q
+  reduce_off new k free em en =
+      en ∙ em
+      ∙ ap (λ (o : Option (Row A V)). eliminate zero add sub mul plus times o k (reduce zero add sub mul plus times t k q)) (sym free)
+      ∙ ap (λ (j : ℕ). reduce zero add sub mul plus times t j q) (next k) where
+        next : (i : ℕ) → suc i ≡ i + 1
+        next i = omega arith
+
+pub plus_width : {A V : Type 0} (add mul : A → A → A) (plus : V → V → V) (times : A → V → V) (m : Row A V) (x : A) (r : Row A V) → length m.coeffs ≡ length r.coeffs → length (plus_row add mul plus times m x r).coeffs ≡ length m.coeffs
+plus_width add mul plus times m x r e = length-add_vectors add m.coeffs (scale_vector mul x r.coeffs) (e ∙ sym (length-scale_vector mul x r.coeffs))
+
+pub plus_right : {A : Type 0} (add mul : A → A → A) (xor : ℕ → ℕ → ℕ) (act : A → ℕ → ℕ) (m : Row A (List ℕ)) (x : A) (r : Row A (List ℕ)) → length m.right ≡ length r.right
+    → length (plus_row add mul (add_vectors xor) (scale_vector act) m x r).right ≡ length m.right
+plus_right add mul xor act m x r e = length-add_vectors xor m.right (scale_vector act x r.right) (e ∙ sym (length-scale_vector act x r.right))
 
 -- ---- a column is cleared in the rows in use
 module _ {A V : Type 0} (zero : A) (add sub mul : A → A → A) (plus : V → V → V) (times : A → V → V) (p : ℕ) (by : Row A V) (used : List Bool) (old : List (Row A V)) where

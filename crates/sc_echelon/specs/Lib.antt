@@ -5,3 +5,5 @@ pub mod Kept
 pub mod Storage
 pub mod Steps
 pub mod Ring
+pub mod Kernel
+pub mod Echelon

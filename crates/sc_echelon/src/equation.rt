@@ -5,6 +5,7 @@ ghost use Rattle.sc_field.specs.Scale.{scaled_sum};
 ghost use Rattle.sc_echelon.specs.Knowledge.{zero_bytes, xor_bytes, act_bytes};
 ghost use Rattle.sc_echelon.specs.Steps.{plus_row, times_row};
 ghost use Rattle.sc_echelon.specs.Ring.{turn_row};
+ghost use Rattle.sc_echelon.specs.Echelon.{IsLastNonzero};
 
 use sc_field::{Field, Multiplier, element_of, scale_add};
 use sc_outside::NoMemory;
@@ -82,6 +83,15 @@ impl<F: Field> Equation<F> {
         first_nonzero(self.numbers.as_slice())
     }
 
+    // The last column whose coefficient is not zero.
+    pub(crate) fn last_nonzero(&self) -> Option<usize>
+        ensures { MatchOption result ((j : ℕ) → j < length self.now.coeffs → slice_index_or self.now.coeffs j F.zero ≡ F.zero)
+            (λ p. (p < length self.now.coeffs) × (slice_index_or self.now.coeffs p F.zero ≢ F.zero)
+            × ((j : ℕ) → p < j → slice_index_or self.now.coeffs j F.zero ≡ F.zero)) }
+    {
+        last_nonzero(self.numbers.as_slice())
+    }
+
     // A column other than `col` whose coefficient is not zero.
     pub(crate) fn another_nonzero(&self, col: usize) -> Option<usize>
         ensures { MatchOption result ((j : ℕ) → j < length self.now.coeffs → j ≢ col → slice_index_or self.now.coeffs j F.zero ≡ F.zero)
@@ -99,6 +109,15 @@ impl<F: Field> Equation<F> {
     {
         write_numbers(self.numbers.as_mut_slice(), coeffs);
         self.right.as_mut_slice().copy_from_slice(right);
+    }
+
+    // Writes the coefficients of these numbers over as many.
+    pub(crate) fn load_numbers(&mut self, numbers: &[u8])
+        requires width { length self.old.coeffs ≡ length numbers.now }
+        requires numbers { All (IsNumber F.IsElement F.number F.element) numbers.now }
+        ensures { self.new ≡ record { coeffs = map F.element numbers.now; right = self.old.right } }
+    {
+        self.numbers.as_mut_slice().copy_from_slice(numbers);
     }
 
     // Adds `c` times `other`.
@@ -155,6 +174,19 @@ fn first_nonzero(xs: &[u8]) -> Option<usize>
         }
     }
     None
+}
+
+// The last place with a byte other than 0.
+fn last_nonzero(xs: &[u8]) -> Option<usize>
+    ensures { IsLastNonzero xs.now (length xs.now) result }
+{
+    let mut last = None;
+    for i in 0..xs.len() {
+        if xs[i] != 0 {
+            last = Some(i);
+        }
+    }
+    last
 }
 
 // A place other than `place` with a byte other than 0.

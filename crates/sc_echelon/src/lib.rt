@@ -3,9 +3,11 @@
 
 mod equation;
 mod knowledge;
+mod reduced;
 mod table;
 
 pub use knowledge::{Added, Knowledge, MAX_BYTES, MAX_COLS};
+pub use reduced::Reduced;
 
 #[cfg(test)]
 mod tests;

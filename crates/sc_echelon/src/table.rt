@@ -5,7 +5,7 @@ ghost use Rattle.std.specs.Prelude.{◌≡◌, ◌≢◌, ◌++◌, ◌-◌, ◌
 ghost use Rattle.sc_echelon.specs.Equation.{IsRow};
 ghost use Rattle.sc_echelon.specs.Kept.{known_by, IsKept};
 ghost use Rattle.sc_echelon.specs.Storage.{table_of, ChangedBelow, IsStored};
-ghost use Rattle.sc_echelon.specs.Steps.{clear_at, insert, led, IsLeft};
+ghost use Rattle.sc_echelon.specs.Steps.{clear_at, insert, led, reduce};
 ghost use Rattle.sc_echelon.specs.Knowledge.{IsBytes, zero_bytes, xor_bytes, act_bytes, Follows, Contradicts, Adds, Forgets};
 ghost use Rattle.sc_echelon.specs.Ring.{turn_row};
 
@@ -35,17 +35,14 @@ pub(crate) fn blank_rows<F: Field>(
 }
 
 // Clears the row at each pivot of the table that `used` and `rows` store.
-fn clear_at_pivots<F: Field>(
-    work: &mut Equation<F>,
-    used: &[bool],
-    rows: &[Equation<F>],
-    width: usize,
-)
-    requires kept { IsKept F.IsElement F.zero F.one (length used.now) width (table_of used.now rows.now) }
+pub(crate) fn clear_at_pivots<F: Field>(work: &mut Equation<F>, used: &[bool], rows: &[Equation<F>])
     requires count { length rows.now ≡ length used.now }
-    requires row { IsRow F.IsElement (IsBytes width) (length used.now) work.old }
-    ensures { IsLeft F.IsElement F.zero (IsBytes width) (zero_bytes width) xor_bytes (act_bytes F.act)
-        (length used.now) (table_of used.now rows.now) work.old (length used.now) work.new }
+    requires width { length work.old.coeffs ≡ length used.now }
+    requires widths { All (λ r. length r.coeffs ≡ length used.now) rows.now }
+    requires rights { All (λ r. length r.right ≡ length work.old.right) rows.now }
+    ensures value { work.new ≡ reduce F.zero F.add F.sub F.mul xor_bytes (act_bytes F.act) (table_of used.now rows.now) (length used.now) work.old }
+    ensures width { length work.new.coeffs ≡ length work.old.coeffs }
+    ensures right { length work.new.right ≡ length work.old.right }
 {
     for k in 0..used.len() {
         if used[k] {
@@ -75,7 +72,7 @@ fn clear_column<F: Field>(rows: &mut [Equation<F>], used: &[bool], p: usize, by:
 }
 
 // Scales the work row to a one at column `p`, clears that column in the rows in use, and puts the row there.
-fn insert_row<F: Field>(
+pub(crate) fn insert_row<F: Field>(
     rows: &mut [Equation<F>],
     used: &mut [bool],
     work: &mut Equation<F>,
@@ -120,7 +117,7 @@ pub(crate) fn add_work<F: Field>(
         (known_by (length used.old) width (table_of used.new rows.new)) }
     ensures stays { result ≢ Added.New → table_of used.new rows.new ≡ table_of used.old rows.old }
 {
-    clear_at_pivots(work, used, rows, width);
+    clear_at_pivots(work, used, rows);
     match work.first_nonzero() {
         Some(p) => {
             insert_row(rows, used, work, p);

@@ -3,6 +3,7 @@ ghost use Rattle.std.specs.Prelude.{◌*◌, ◌<◌, ◌≤◌};
 
 use super::*;
 use sc_field::{Field, Gf2, Gf256};
+use sc_matrix::Matrix;
 use std::alloc::Global;
 use std::process::Abort;
 use std::test::Fail;
@@ -369,4 +370,131 @@ fn largest_size(rt: HostRuntime) -> Result<(), Fail> {
     assert_value(&rt, &k, 0, Some(rhs.as_slice()));
     assert_value(&rt, &k, 1, None);
     Ok(())
+}
+
+fn put<F: Field>(
+    rt: &impl Abort,
+    m: &mut Matrix<F>,
+    i: usize,
+    j: usize,
+    number: u8,
+) -> Result<(), Fail> {
+    let x = element(number)?;
+    assert!(rt; i < m.rows());
+    assert!(rt; j < m.cols());
+    m.set(i, j, x);
+    Ok(())
+}
+
+// Writes these numbers over the matrix, row by row.
+fn fill<F: Field>(
+    rt: &impl Abort,
+    m: &mut Matrix<F>,
+    cols: usize,
+    numbers: &[u8],
+) -> Result<(), Fail>
+    requires { 0 < cols }
+{
+    for (k, n) in numbers.iter().enumerate() {
+        put(rt, m, k / cols, k % cols, *n)?;
+    }
+    Ok(())
+}
+
+// Asserts the rank of the matrix, and for each column whether it is free.
+fn assert_reduced<F: Field>(
+    rt: &impl Abort,
+    alloc: Global,
+    m: &Matrix<F>,
+    free: &[u8],
+    rank: usize,
+) -> Result<(), Fail> {
+    let r = Reduced::of(alloc, m)?;
+    assert_eq!(rt; r.rank(), rank);
+    for (col, f) in free.iter().enumerate() {
+        assert!(rt; col < r.cols());
+        assert_eq!(rt; r.is_free(col), *f == 1, "column {col}");
+    }
+    Ok(())
+}
+
+// One row that is not zero at its first and its last column: the last is its pivot.
+fn worked_matrix<F: Field>(rt: &impl Abort, alloc: Global) -> Result<(), Fail> {
+    let mut m = Matrix::<F>::zeros(alloc, 1, 4)?;
+    fill(rt, &mut m, 4, &[1, 0, 0, 1])?;
+    assert_reduced(rt, alloc, &m, &[1, 1, 1, 0], 1)
+}
+
+#[test]
+fn worked_matrix_over_bits(rt: HostRuntime) -> Result<(), Fail> {
+    worked_matrix::<Gf2>(&rt, rt.alloc())
+}
+
+#[test]
+fn worked_matrix_over_bytes(rt: HostRuntime) -> Result<(), Fail> {
+    worked_matrix::<Gf256>(&rt, rt.alloc())
+}
+
+// Matrices of three rows and five columns over GF(2), the columns that are free and the rank, as a script lists them that
+// goes through all vectors.
+const MATRICES: [[u8; 21]; 12] = [
+    [
+        1, 0, 0, 1, 0, 0, 0, 0, 1, 0, 1, 1, 1, 0, 0, 0, 1, 0, 0, 1, 3,
+    ],
+    [
+        0, 1, 0, 0, 0, 1, 0, 0, 0, 0, 0, 0, 1, 0, 1, 0, 0, 1, 1, 0, 3,
+    ],
+    [
+        0, 1, 0, 0, 1, 1, 1, 0, 0, 0, 1, 0, 0, 0, 1, 1, 0, 1, 1, 0, 2,
+    ],
+    [
+        0, 0, 1, 1, 0, 0, 0, 0, 0, 0, 1, 0, 1, 1, 0, 0, 1, 1, 0, 1, 2,
+    ],
+    [
+        1, 1, 0, 1, 0, 0, 0, 0, 0, 1, 1, 1, 1, 0, 0, 1, 1, 0, 0, 0, 3,
+    ],
+    [
+        0, 0, 1, 1, 0, 1, 1, 0, 1, 0, 0, 1, 0, 0, 0, 1, 0, 0, 0, 1, 3,
+    ],
+    [
+        0, 0, 0, 0, 1, 1, 1, 1, 0, 0, 0, 0, 0, 1, 0, 1, 1, 0, 0, 0, 3,
+    ],
+    [
+        0, 0, 0, 1, 0, 1, 1, 0, 1, 0, 0, 0, 1, 1, 1, 1, 0, 1, 0, 0, 3,
+    ],
+    [
+        1, 0, 0, 0, 0, 0, 1, 1, 0, 0, 0, 0, 0, 1, 1, 0, 1, 0, 1, 0, 3,
+    ],
+    [
+        0, 1, 1, 0, 1, 1, 1, 0, 1, 0, 1, 1, 0, 0, 0, 1, 0, 1, 0, 0, 3,
+    ],
+    [
+        1, 1, 0, 0, 0, 1, 1, 1, 0, 0, 0, 1, 0, 0, 1, 1, 0, 0, 1, 0, 3,
+    ],
+    [
+        1, 0, 0, 0, 0, 0, 1, 0, 1, 1, 0, 1, 1, 1, 0, 0, 1, 1, 0, 0, 3,
+    ],
+];
+
+#[test]
+fn listed_matrices(rt: HostRuntime) -> Result<(), Fail> {
+    let alloc = rt.alloc();
+    let mut m = Matrix::<Gf2>::zeros(alloc, 3, 5)?;
+    for line in &MATRICES {
+        fill(&rt, &mut m, 5, &line[..15])?;
+        assert_reduced(&rt, alloc, &m, &line[15..20], line[20] as usize)?;
+    }
+    Ok(())
+}
+
+#[test]
+fn matrix_of_real_size(rt: HostRuntime) -> Result<(), Fail> {
+    let alloc = rt.alloc();
+    let mut m = Matrix::<Gf256>::zeros(alloc, 1000, 144)?;
+    for i in 0..1000 {
+        for j in 0..144 {
+            put(&rt, &mut m, i, j, mixed(i, j))?;
+        }
+    }
+    assert_reduced(&rt, alloc, &m, &[0; 144], 144)
 }

@@ -1,13 +1,13 @@
 use Rattle.std.proofs.Common.{length, refl, sym, ◌∙◌}
 use Rattle.sc_echelon.specs.Storage.{table_of}
-use Rattle.sc_echelon.proofs.AddWork.{found_new, found_adds, found_kept, none_known, none_clash}
+use Rattle.sc_echelon.proofs.AddWork.{left_reduced, found_new, found_adds, found_kept, none_known, none_clash}
 use Rattle.sc_echelon.proofs.table.add_work.Goals as goal
 
 pub returns-in-Some-clause-stored : goal.returns-in-Some-clause-stored
 returns-in-Some-clause-stored g c =
     let t = table_of c.args.used.now c.args.rows.now in
     let m = c.clear_at_pivots.new.work in
-    let left = c.clear_at_pivots.ensures in
+    let left = (left_reduced g.met.F.Field.field g.met.F.Field.action (length c.args.used.now) c.args.width (table_of c.args.used.now c.args.rows.now) c.requires.stored.kept c.args.work.now c.clear_at_pivots.new.work c.requires.row c.clear_at_pivots.ensures.value) in
     let flags = c.insert_row.ensures.flags in
     let stored = c.requires.stored in
     record {
@@ -24,41 +24,41 @@ returns-in-Some-clause-stored g c =
 pub returns-in-Some-clause-known : goal.returns-in-Some-clause-known
 returns-in-Some-clause-known g c =
     let both = found_new g.met.F.Field.field g.met.F.Field.action (length c.args.used.now) c.args.width (table_of c.args.used.now c.args.rows.now) c.requires.stored.kept c.args.work.now
-    c.clear_at_pivots.new.work c.clear_at_pivots.ensures c.clear_at_pivots.new.work.coeffs refl c.in-Some.p c.in-Some.ensures.0 c.in-Some.ensures.1 c.requires.stored.some in
+    c.clear_at_pivots.new.work (left_reduced g.met.F.Field.field g.met.F.Field.action (length c.args.used.now) c.args.width (table_of c.args.used.now c.args.rows.now) c.requires.stored.kept c.args.work.now c.clear_at_pivots.new.work c.requires.row c.clear_at_pivots.ensures.value) c.clear_at_pivots.new.work.coeffs refl c.in-Some.p c.in-Some.ensures.0 c.in-Some.ensures.1 c.requires.stored.some in
     (λ e. absurd (cc e), λ f. absurd (both.0 f))
 
 pub returns-in-Some-clause-clash : goal.returns-in-Some-clause-clash
 returns-in-Some-clause-clash g c =
     let both = found_new g.met.F.Field.field g.met.F.Field.action (length c.args.used.now) c.args.width (table_of c.args.used.now c.args.rows.now) c.requires.stored.kept c.args.work.now
-    c.clear_at_pivots.new.work c.clear_at_pivots.ensures c.clear_at_pivots.new.work.coeffs refl c.in-Some.p c.in-Some.ensures.0 c.in-Some.ensures.1 c.requires.stored.some in
+    c.clear_at_pivots.new.work (left_reduced g.met.F.Field.field g.met.F.Field.action (length c.args.used.now) c.args.width (table_of c.args.used.now c.args.rows.now) c.requires.stored.kept c.args.work.now c.clear_at_pivots.new.work c.requires.row c.clear_at_pivots.ensures.value) c.clear_at_pivots.new.work.coeffs refl c.in-Some.p c.in-Some.ensures.0 c.in-Some.ensures.1 c.requires.stored.some in
     (λ e. absurd (cc e), λ f. absurd (both.1 f))
 
 pub returns-in-Some-clause-adds : goal.returns-in-Some-clause-adds
 returns-in-Some-clause-adds g c = λ e.
     found_adds g.met.F.Field.field g.met.F.Field.action (length c.args.used.now) c.args.width (table_of c.args.used.now c.args.rows.now) c.requires.stored.kept c.args.work.now
-    c.clear_at_pivots.new.work c.clear_at_pivots.ensures c.clear_at_pivots.new.work.coeffs refl c.in-Some.p c.in-Some.ensures.0 c.in-Some.ensures.1
+    c.clear_at_pivots.new.work (left_reduced g.met.F.Field.field g.met.F.Field.action (length c.args.used.now) c.args.width (table_of c.args.used.now c.args.rows.now) c.requires.stored.kept c.args.work.now c.clear_at_pivots.new.work c.requires.row c.clear_at_pivots.ensures.value) c.clear_at_pivots.new.work.coeffs refl c.in-Some.p c.in-Some.ensures.0 c.in-Some.ensures.1
     (table_of c.insert_row.new.used c.insert_row.new.rows) c.insert_row.ensures.table
 
 pub returns-then-is_zero_right-clause-known : goal.returns-then-is_zero_right-clause-known
 returns-then-is_zero_right-clause-known g c =
     let both = none_known g.met.F.Field.field g.met.F.Field.action (length c.args.used.now) c.args.width (table_of c.args.used.now c.args.rows.now) c.requires.stored.kept c.args.work.now
-    c.clear_at_pivots.new.work c.clear_at_pivots.ensures c.clear_at_pivots.new.work.coeffs refl c.in-None.ensures c.clear_at_pivots.new.work.right refl (c.is_zero_right.ensures.yes c.if-is_zero_right.true) in
+    c.clear_at_pivots.new.work (left_reduced g.met.F.Field.field g.met.F.Field.action (length c.args.used.now) c.args.width (table_of c.args.used.now c.args.rows.now) c.requires.stored.kept c.args.work.now c.clear_at_pivots.new.work c.requires.row c.clear_at_pivots.ensures.value) c.clear_at_pivots.new.work.coeffs refl c.in-None.ensures c.clear_at_pivots.new.work.right refl (c.is_zero_right.ensures.yes c.if-is_zero_right.true) in
     (λ e. both.0, λ f. refl)
 
 pub returns-then-is_zero_right-clause-clash : goal.returns-then-is_zero_right-clause-clash
 returns-then-is_zero_right-clause-clash g c =
     let both = none_known g.met.F.Field.field g.met.F.Field.action (length c.args.used.now) c.args.width (table_of c.args.used.now c.args.rows.now) c.requires.stored.kept c.args.work.now
-    c.clear_at_pivots.new.work c.clear_at_pivots.ensures c.clear_at_pivots.new.work.coeffs refl c.in-None.ensures c.clear_at_pivots.new.work.right refl (c.is_zero_right.ensures.yes c.if-is_zero_right.true) in
+    c.clear_at_pivots.new.work (left_reduced g.met.F.Field.field g.met.F.Field.action (length c.args.used.now) c.args.width (table_of c.args.used.now c.args.rows.now) c.requires.stored.kept c.args.work.now c.clear_at_pivots.new.work c.requires.row c.clear_at_pivots.ensures.value) c.clear_at_pivots.new.work.coeffs refl c.in-None.ensures c.clear_at_pivots.new.work.right refl (c.is_zero_right.ensures.yes c.if-is_zero_right.true) in
     (λ e. absurd (cc e), λ f. absurd (both.1 f))
 
 pub returns-else-is_zero_right-clause-known : goal.returns-else-is_zero_right-clause-known
 returns-else-is_zero_right-clause-known g c =
     let both = none_clash g.met.F.Field.field g.met.F.Field.action (length c.args.used.now) c.args.width (table_of c.args.used.now c.args.rows.now) c.requires.stored.kept c.args.work.now
-    c.clear_at_pivots.new.work c.clear_at_pivots.ensures c.clear_at_pivots.new.work.coeffs refl c.in-None.ensures c.clear_at_pivots.new.work.right refl (c.is_zero_right.ensures.no c.if-is_zero_right.false) in
+    c.clear_at_pivots.new.work (left_reduced g.met.F.Field.field g.met.F.Field.action (length c.args.used.now) c.args.width (table_of c.args.used.now c.args.rows.now) c.requires.stored.kept c.args.work.now c.clear_at_pivots.new.work c.requires.row c.clear_at_pivots.ensures.value) c.clear_at_pivots.new.work.coeffs refl c.in-None.ensures c.clear_at_pivots.new.work.right refl (c.is_zero_right.ensures.no c.if-is_zero_right.false) in
     (λ e. absurd (cc e), λ f. absurd (both.1 f))
 
 pub returns-else-is_zero_right-clause-clash : goal.returns-else-is_zero_right-clause-clash
 returns-else-is_zero_right-clause-clash g c =
     let both = none_clash g.met.F.Field.field g.met.F.Field.action (length c.args.used.now) c.args.width (table_of c.args.used.now c.args.rows.now) c.requires.stored.kept c.args.work.now
-    c.clear_at_pivots.new.work c.clear_at_pivots.ensures c.clear_at_pivots.new.work.coeffs refl c.in-None.ensures c.clear_at_pivots.new.work.right refl (c.is_zero_right.ensures.no c.if-is_zero_right.false) in
+    c.clear_at_pivots.new.work (left_reduced g.met.F.Field.field g.met.F.Field.action (length c.args.used.now) c.args.width (table_of c.args.used.now c.args.rows.now) c.requires.stored.kept c.args.work.now c.clear_at_pivots.new.work c.requires.row c.clear_at_pivots.ensures.value) c.clear_at_pivots.new.work.coeffs refl c.in-None.ensures c.clear_at_pivots.new.work.right refl (c.is_zero_right.ensures.no c.if-is_zero_right.false) in
     (λ e. both.0, λ f. refl)
