@@ -1,0 +1,193 @@
+-- A system's coefficients are kept in reduced form where rows and flags are stored side by side.
+use Rattle.std.proofs.Common.{◌≡◌, ◌≢◌, ◌↔◌, ℕ, zero as naught, suc, ◌+◌, ◌<◌, ◌≤◌, List, [], ◌∷◌, ◌++◌, length, get_or, map, set, replicate, All, Bool, true, false, Option, None, Some, inl, inr, refl, sym, ◌∙◌, ap, subst, arith}
+use Rattle.std.proofs.lemmas.List.{length-map, length-replicate, get_or-map, get_or_past, map-set}
+use Rattle.std.proofs.lemmas.List.Elements.{All-nil, All-cons, All-head, All-tail}
+use Rattle.std.proofs.lemmas.Bool.{cases_lt}
+use Rattle.sc_field.specs.Field.{IsField}
+use Rattle.sc_matrix.proofs.MatrixLaws.{map-replicate}
+use Rattle.sc_matrix.specs.Vector.{IsVector, dot, scale_vector}
+use Rattle.sc_echelon.specs.Equation.{Row, Meets, Solves}
+use Rattle.sc_echelon.specs.Kernel.{IsKernelVector}
+use Rattle.sc_echelon.specs.Table.{slot, rows_of}
+use Rattle.sc_echelon.specs.Steps.{reduce, eliminate, clear_at, insert, led}
+use Rattle.sc_echelon.specs.Echelon.{zero_row, homogeneous, IsEchelon, HasKernelOf, IsEchelonStored, coeffs_at, coeffs_of, counted, on_below}
+use Rattle.sc_echelon.proofs.KernelLaws.{one_more, filled_below, filled_all}
+use Rattle.sc_echelon.specs.Storage.{place, table_of}
+use Rattle.sc_echelon.specs.Knowledge.{xor_bytes, act_bytes}
+use Rattle.sc_echelon.proofs.StorageLaws.{table_of-off, slot-table_of, length-table_of}
+use Rattle.sc_echelon.proofs.Settle.{cases_option, none_is_not_some}
+use Rattle.sc_echelon.proofs.Insert.{solves_rows}
+use Rattle.sc_echelon.proofs.ReducedSteps.{IsLeftOf, start_left, free_left, pivot_left, kernel_known, clear_coeffs, insert_coeffs, echelon_start, kernel_start, echelon_new, kernel_new}
+
+module _ {A V : Type 0} where
+  pub slot-coeffs_of : (t : List (Option (Row A V))) (i : ℕ) → slot (coeffs_of t) i ≡ coeffs_at (slot t i)
+  slot-coeffs_of t i = elim (cases_lt i (length t)) [
+    | inl l ↦ get_or-map coeffs_at t i None None l
+    | inr past ↦
+        (get_or_past (coeffs_of t) i None (let k = length-map t coeffs_at in omega arith)
+        ∙ ap coeffs_at (sym (get_or_past t i None past)))
+  ]
+
+module _ {A : Type 0} {IsElement : A → Type 0} {zero one : A} {add sub mul : A → A → A} {inv : A → A} (laws : IsField IsElement zero one add sub mul inv) {V : Type 0} (plus : V → V → V) (times : A → V → V) (n : ℕ) (t : List (Option (Row A V))) (form : IsEchelon IsElement zero one n (coeffs_of t)) (q : Row A V) where
+  -- what is left of a row's coefficients
+  pub left_coeffs : length q.coeffs ≡ n → All IsElement q.coeffs → (k : ℕ) → IsLeftOf laws n (coeffs_of t) q.coeffs k (reduce zero add sub mul plus times t k q).coeffs
+  left_coeffs l h naught = start_left laws n (coeffs_of t) q.coeffs l h
+  left_coeffs l h (suc k) =
+      let m = reduce zero add sub mul plus times t k q in
+      let before : IsLeftOf laws n (coeffs_of t) q.coeffs k m.coeffs = left_coeffs l h k in
+      elim (cases_option (slot t k)) [
+        | inl free ↦
+            subst (λ (o : Option (Row A V)). IsLeftOf laws n (coeffs_of t) q.coeffs (suc k) (eliminate zero add sub mul plus times o k m).coeffs) (sym free)
+            (free_left laws n (coeffs_of t) q.coeffs k m.coeffs (slot-coeffs_of t k ∙ ap coeffs_at free) before)
+        | inr (r, full) ↦
+            subst (λ (o : Option (Row A V)). IsLeftOf laws n (coeffs_of t) q.coeffs (suc k) (eliminate zero add sub mul plus times o k m).coeffs) (sym full)
+            (pivot_left laws n (coeffs_of t) q.coeffs k m.coeffs r.coeffs form (slot-coeffs_of t k ∙ ap coeffs_at full) before)
+      ]
+
+  cleared_coeffs : (p : ℕ) (d : Row A V) (s : List (Option (Row A V))) → map coeffs_at (map (clear_at zero add sub mul plus times p d) s) ≡ map (clear_coeffs laws p d.coeffs) (map coeffs_at s)
+  cleared_coeffs p d [] = refl
+  cleared_coeffs p d (None ∷ s) = ap (λ (xs : List (Option (List A))). None ∷ xs) (cleared_coeffs p d s)
+  cleared_coeffs p d (Some r ∷ s) = ap (λ (xs : List (Option (List A))). clear_coeffs laws p d.coeffs (Some r.coeffs) ∷ xs) (cleared_coeffs p d s)
+
+  pub insert_stored : (p : ℕ) (m : Row A V) → coeffs_of (insert zero add sub mul plus times p (led zero mul inv times p m) t) ≡ insert_coeffs laws p (scale_vector mul (inv (get_or m.coeffs p zero)) m.coeffs) (coeffs_of t)
+  insert_stored p m =
+      let d = led zero mul inv times p m in
+      map-set coeffs_at (map (clear_at zero add sub mul plus times p d) t) p (Some d)
+      ∙ ap (λ (xs : List (Option (List A))). set xs p (Some d.coeffs)) (cleared_coeffs p d t)
+
+-- ---- the kernel of the kept rows is that of the table
+module _ {A : Type 0} (zero : A) (add mul : A → A → A) where
+  rows_solve : (v : List A) (s : List (Option (List A))) → Solves zero add mul (rows_of (homogeneous zero s)) v ↔ All (λ r. dot zero add mul r v ≡ zero) (rows_of s)
+  rows_solve v [] = (λ a. All-nil (λ (r : List A). dot zero add mul r v ≡ zero), λ a. All-nil (λ (r : Row A A). Meets zero add mul r v))
+  rows_solve v (None ∷ s) = rows_solve v s
+  rows_solve v (Some cs ∷ s) =
+      let P : List A → Type 0 = λ (r : List A). dot zero add mul r v ≡ zero in
+      let Q : Row A A → Type 0 = λ (r : Row A A). Meets zero add mul r v in (
+        λ a. All-cons P cs (rows_of s) (All-head Q (zero_row zero cs) (rows_of (homogeneous zero s)) a) ((rows_solve v s).0 (All-tail Q (zero_row zero cs) (rows_of (homogeneous zero s)) a)),
+        λ a. All-cons Q (zero_row zero cs) (rows_of (homogeneous zero s)) (All-head P cs (rows_of s) a) ((rows_solve v s).1 (All-tail P cs (rows_of s) a)),
+      )
+
+  pub kernel_kept : (IsElement : A → Type 0) (n : ℕ) (s : List (Option (List A))) → HasKernelOf IsElement zero add mul n s (rows_of s)
+  kernel_kept IsElement n s v hv =
+      let a = solves_rows zero add mul v (homogeneous zero s) in
+      let b = rows_solve v s in
+      (λ x. b.0 (a.1 x), λ x. a.0 (b.1 x))
+
+  -- so two systems that the table has the kernel of have one kernel
+  pub same_kernel : (IsElement : A → Type 0) (n : ℕ) (s : List (Option (List A))) (rows : List (List A)) → HasKernelOf IsElement zero add mul n s rows
+      → (v : List A) → IsKernelVector IsElement zero add mul n (rows_of s) v ↔ IsKernelVector IsElement zero add mul n rows v
+  same_kernel IsElement n s rows kernel v = (
+    λ k.
+        let hv : IsVector IsElement n v = record { width = k.width; entries = k.elements } in
+        record { width = k.width; elements = k.elements; zeros = (kernel v hv).0 ((kernel_kept IsElement n s v hv).1 k.zeros) },
+    λ k.
+        let hv : IsVector IsElement n v = record { width = k.width; entries = k.elements } in
+        record { width = k.width; elements = k.elements; zeros = (kernel_kept IsElement n s v hv).0 ((kernel v hv).1 k.zeros) },
+  )
+
+-- ---- a row is taken in
+module _ {A : Type 0} {IsElement : A → Type 0} {zero one : A} {add sub mul : A → A → A} {inv : A → A} (laws : IsField IsElement zero one add sub mul inv) (act : A → ℕ → ℕ)
+    (used : List Bool) (rows : List (Row A (List ℕ))) (stored : IsEchelonStored IsElement zero one used rows) (q m : Row A (List ℕ)) (l : length q.coeffs ≡ length used) (h : All IsElement q.coeffs)
+    (is : m ≡ reduce zero add sub mul xor_bytes (act_bytes act) (table_of used rows) (length used) q) where
+  n : ℕ
+  n = length used
+
+  left : IsLeftOf laws (length used) (coeffs_of (table_of used rows)) q.coeffs (length used) m.coeffs
+  left =
+      subst (λ (r : Row A (List ℕ)). IsLeftOf laws (length used) (coeffs_of (table_of used rows)) q.coeffs (length used) r.coeffs) (sym is)
+      (left_coeffs laws xor_bytes (act_bytes act) (length used) (table_of used rows) stored.form q l h (length used))
+
+  module _ (zeros : (j : ℕ) → j < length m.coeffs → get_or m.coeffs j zero ≡ zero) where
+    pub nothing_left : (rs : List (List A)) → HasKernelOf IsElement zero add mul (length used) (coeffs_of (table_of used rows)) rs → HasKernelOf IsElement zero add mul (length used) (coeffs_of (table_of used rows)) (rs ++ q.coeffs ∷ [])
+    nothing_left rs kernel =
+        let w = left.row.width in
+        kernel_known laws (length used) (coeffs_of (table_of used rows)) rs q.coeffs m.coeffs stored.form kernel left (λ i lt. zeros i (omega arith))
+
+  module _ (p : ℕ) (lp : p < length m.coeffs) (ne : get_or m.coeffs p zero ≢ zero) (after : (j : ℕ) → p < j → get_or m.coeffs j zero ≡ zero)
+      (used' : List Bool) (rows' : List (Row A (List ℕ))) (flags : length used' ≡ length used) (table : table_of used' rows' ≡ insert zero add sub mul xor_bytes (act_bytes act) p (led zero mul inv (act_bytes act) p m) (table_of used rows)) where
+    within : p < length used
+    within = let w = left.row.width in omega arith
+
+    made : coeffs_of (table_of used' rows') ≡ insert_coeffs laws p (scale_vector mul (inv (get_or m.coeffs p zero)) m.coeffs) (coeffs_of (table_of used rows))
+    made = ap coeffs_of table ∙ insert_stored laws xor_bytes (act_bytes act) (length used) (table_of used rows) stored.form q p m
+
+    pub form_left : IsEchelon IsElement zero one (length used') (coeffs_of (table_of used' rows'))
+    form_left =
+        subst (λ (k : ℕ). IsEchelon IsElement zero one k (coeffs_of (table_of used' rows'))) (sym flags)
+        (subst (λ (s : List (Option (List A))). IsEchelon IsElement zero one (length used) s) (sym made)
+        (echelon_new laws (length used) (coeffs_of (table_of used rows)) stored.form q.coeffs m.coeffs left p within ne after))
+
+    pub kernel_left : (rs : List (List A)) → HasKernelOf IsElement zero add mul (length used) (coeffs_of (table_of used rows)) rs → HasKernelOf IsElement zero add mul (length used') (coeffs_of (table_of used' rows')) (rs ++ q.coeffs ∷ [])
+    kernel_left rs kernel =
+        subst (λ (k : ℕ). HasKernelOf IsElement zero add mul k (coeffs_of (table_of used' rows')) (rs ++ q.coeffs ∷ [])) (sym flags)
+        (subst (λ (s : List (Option (List A))). HasKernelOf IsElement zero add mul (length used) s (rs ++ q.coeffs ∷ [])) (sym made)
+        (kernel_new laws (length used) (coeffs_of (table_of used rows)) stored.form q.coeffs m.coeffs left p within ne rs kernel))
+
+-- ---- the start
+module _ {A : Type 0} {IsElement : A → Type 0} {zero one : A} {add sub mul : A → A → A} {inv : A → A} (laws : IsField IsElement zero one add sub mul inv)
+    (n : ℕ) (used : List Bool) (rows : List (Row A (List ℕ))) (off : used ≡ replicate n false) (count : length rows ≡ n) where
+  size : length used ≡ n
+  size = ap length off ∙ length-replicate n false
+
+  none_kept : coeffs_of (table_of used rows) ≡ replicate n None
+  none_kept = ap (λ bs. coeffs_of (table_of bs rows)) off ∙ ap coeffs_of (table_of-off n rows count) ∙ map-replicate coeffs_at n None
+
+  pub echelon_stored_start : All (λ r. length r.coeffs ≡ n) rows → All (λ r. length r.right ≡ 0) rows → IsEchelonStored IsElement zero one used rows
+  echelon_stored_start widths rights = record {
+    form =
+        subst (λ (k : ℕ). IsEchelon IsElement zero one k (coeffs_of (table_of used rows))) (sym size)
+        (subst (λ (s : List (Option (List A))). IsEchelon IsElement zero one n s) (sym none_kept) (echelon_start laws n));
+    count = count ∙ sym size;
+    widths = λ k d l. widths k d l ∙ sym size;
+    rights = rights;
+  }
+
+  pub kernel_stored_start : HasKernelOf IsElement zero add mul (length used) (coeffs_of (table_of used rows)) []
+  kernel_stored_start =
+      subst (λ (k : ℕ). HasKernelOf IsElement zero add mul k (coeffs_of (table_of used rows)) []) (sym size)
+      (subst (λ (s : List (Option (List A))). HasKernelOf IsElement zero add mul n s []) (sym none_kept) (kernel_start laws n))
+
+-- ---- what a flag says
+module _ {A : Type 0} (used : List Bool) (rows : List (Row A (List ℕ))) (count : length rows ≡ length used) (col : ℕ) (l : col < length used) where
+  abbrev blank : Row A (List ℕ)
+  blank = record { coeffs = []; right = [] }
+
+  pub flag_off : get_or used col false ≡ false → slot (coeffs_of (table_of used rows)) col ≡ None
+  flag_off off = slot-coeffs_of (table_of used rows) col ∙ ap coeffs_at (slot-table_of used rows col blank count l) ∙ ap (λ b. coeffs_at (place b (get_or rows col blank))) off
+
+  pub flag_on : {Y : Type 0} → get_or used col false ≡ true → slot (coeffs_of (table_of used rows)) col ≡ None → Y
+  flag_on on free =
+      none_is_not_some free
+      (slot-coeffs_of (table_of used rows) col ∙ ap coeffs_at (slot-table_of used rows col blank count l) ∙ ap (λ b. coeffs_at (place b (get_or rows col blank))) on)
+
+-- ---- how many flags are on
+pub on_more : (bs : List Bool) (k n : ℕ) → get_or bs k false ≡ true → n ≡ on_below bs k → n + 1 ≡ on_below bs (k + 1)
+on_more bs k n on e =
+    next n ∙ ap suc e ∙ ap (λ (b : Bool). counted b (on_below bs k)) (sym on) ∙ ap (on_below bs) (sym (next k)) where
+      next : (i : ℕ) → i + 1 ≡ suc i
+      next i = omega arith
+
+pub off_more : (bs : List Bool) (k n : ℕ) → get_or bs k false ≡ false → n ≡ on_below bs k → n ≡ on_below bs (k + 1)
+off_more bs k n off e =
+    e ∙ ap (λ (b : Bool). counted b (on_below bs k)) (sym off) ∙ ap (on_below bs) (sym (next k)) where
+      next : (i : ℕ) → i + 1 ≡ suc i
+      next i = omega arith
+
+module _ {A : Type 0} (used : List Bool) (rows : List (Row A (List ℕ))) (count : length rows ≡ length used) where
+  counts_alike : (b : Bool) (r : Row A (List ℕ)) (k : ℕ) → counted b k ≡ one_more (coeffs_at (place b r)) k
+  counts_alike true r k = refl
+  counts_alike false r k = refl
+
+  filled_on : (k : ℕ) → k ≤ length used → on_below used k ≡ filled_below (coeffs_of (table_of used rows)) k
+  filled_on naught h = refl
+  filled_on (suc k) h =
+      let d : Row A (List ℕ) = record { coeffs = []; right = [] } in
+      ap (counted (get_or used k false)) (filled_on k (omega arith))
+      ∙ counts_alike (get_or used k false) (get_or rows k d) (filled_below (coeffs_of (table_of used rows)) k)
+      ∙ ap (λ (o : Option (List A)). one_more o (filled_below (coeffs_of (table_of used rows)) k))
+      (sym (slot-coeffs_of (table_of used rows) k ∙ ap coeffs_at (slot-table_of used rows k d count (omega arith))))
+
+  pub rows_on : on_below used (length used) ≡ length (rows_of (coeffs_of (table_of used rows)))
+  rows_on =
+      let e : length (coeffs_of (table_of used rows)) ≡ length used = length-map (table_of used rows) coeffs_at ∙ length-table_of used rows count in
+      filled_on (length used) (omega arith) ∙ ap (filled_below (coeffs_of (table_of used rows))) (sym e) ∙ filled_all (coeffs_of (table_of used rows))

@@ -1,0 +1,13 @@
+use Rattle.std.proofs.Common.{map, ◌∙◌, ap}
+use Rattle.std.proofs.lemmas.List.Elements.{All-same}
+use Rattle.sc_field.specs.Field.{IsNumber}
+use Rattle.sc_echelon.proofs.NumberRows.{last_found}
+use Rattle.sc_echelon.proofs.equation.Equation.last_nonzero.Goals as goal
+
+pub returns : goal.returns
+returns g c =
+    let element = g.F.Field.element in
+    let Number = IsNumber g.F.Field.IsElement g.F.Field.number element in
+    last_found g.met.F.Field.field g.met.F.Field.action g.met.F.Field.numbered g.met.F.Field.by_number c.as_slice.result.now c.args.self.now.coeffs
+    (ap (map element) c.as_slice.ensures.value ∙ ap (λ r. r.coeffs) c.self.view_is) (All-same Number _ _ c.as_slice.ensures.value c.self.invariant)
+    c.last_nonzero.result c.last_nonzero.ensures

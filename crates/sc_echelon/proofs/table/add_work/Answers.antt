@@ -1,0 +1,64 @@
+use Rattle.std.proofs.Common.{length, refl, sym, ◌∙◌}
+use Rattle.sc_echelon.specs.Storage.{table_of}
+use Rattle.sc_echelon.proofs.AddWork.{left_reduced, found_new, found_adds, found_kept, none_known, none_clash}
+use Rattle.sc_echelon.proofs.table.add_work.Goals as goal
+
+pub returns-in-Some-clause-stored : goal.returns-in-Some-clause-stored
+returns-in-Some-clause-stored g c =
+    let t = table_of c.args.used.now c.args.rows.now in
+    let m = c.clear_at_pivots.new.work in
+    let left = (left_reduced g.met.F.Field.field g.met.F.Field.action (length c.args.used.now) c.args.width (table_of c.args.used.now c.args.rows.now) c.requires.stored.kept c.args.work.now c.clear_at_pivots.new.work c.requires.row c.clear_at_pivots.ensures.value) in
+    let flags = c.insert_row.ensures.flags in
+    let stored = c.requires.stored in
+    record {
+      some = stored.some;
+      kept = found_kept g.met.F.Field.field g.met.F.Field.action (length c.args.used.now) c.args.width t stored.kept c.args.work.now m left c.clear_at_pivots.new.work.coeffs refl
+          c.in-Some.p c.in-Some.ensures.0 c.in-Some.ensures.1 c.in-Some.ensures.2 (length c.insert_row.new.used) (table_of c.insert_row.new.used c.insert_row.new.rows) flags c.insert_row.ensures.table;
+      count = c.insert_row.ensures.count;
+      widths = λ k d l. c.insert_row.ensures.widths k d l ∙ left.row.width ∙ sym flags;
+      rights = λ k d l. c.insert_row.ensures.rights k d l ∙ left.row.value.width;
+      work_width = c.insert_row.ensures.work_width ∙ left.row.width ∙ sym flags;
+      work_right = c.insert_row.ensures.work_right ∙ left.row.value.width;
+    }
+
+pub returns-in-Some-clause-known : goal.returns-in-Some-clause-known
+returns-in-Some-clause-known g c =
+    let both = found_new g.met.F.Field.field g.met.F.Field.action (length c.args.used.now) c.args.width (table_of c.args.used.now c.args.rows.now) c.requires.stored.kept c.args.work.now
+    c.clear_at_pivots.new.work (left_reduced g.met.F.Field.field g.met.F.Field.action (length c.args.used.now) c.args.width (table_of c.args.used.now c.args.rows.now) c.requires.stored.kept c.args.work.now c.clear_at_pivots.new.work c.requires.row c.clear_at_pivots.ensures.value) c.clear_at_pivots.new.work.coeffs refl c.in-Some.p c.in-Some.ensures.0 c.in-Some.ensures.1 c.requires.stored.some in
+    (λ e. absurd (cc e), λ f. absurd (both.0 f))
+
+pub returns-in-Some-clause-clash : goal.returns-in-Some-clause-clash
+returns-in-Some-clause-clash g c =
+    let both = found_new g.met.F.Field.field g.met.F.Field.action (length c.args.used.now) c.args.width (table_of c.args.used.now c.args.rows.now) c.requires.stored.kept c.args.work.now
+    c.clear_at_pivots.new.work (left_reduced g.met.F.Field.field g.met.F.Field.action (length c.args.used.now) c.args.width (table_of c.args.used.now c.args.rows.now) c.requires.stored.kept c.args.work.now c.clear_at_pivots.new.work c.requires.row c.clear_at_pivots.ensures.value) c.clear_at_pivots.new.work.coeffs refl c.in-Some.p c.in-Some.ensures.0 c.in-Some.ensures.1 c.requires.stored.some in
+    (λ e. absurd (cc e), λ f. absurd (both.1 f))
+
+pub returns-in-Some-clause-adds : goal.returns-in-Some-clause-adds
+returns-in-Some-clause-adds g c = λ e.
+    found_adds g.met.F.Field.field g.met.F.Field.action (length c.args.used.now) c.args.width (table_of c.args.used.now c.args.rows.now) c.requires.stored.kept c.args.work.now
+    c.clear_at_pivots.new.work (left_reduced g.met.F.Field.field g.met.F.Field.action (length c.args.used.now) c.args.width (table_of c.args.used.now c.args.rows.now) c.requires.stored.kept c.args.work.now c.clear_at_pivots.new.work c.requires.row c.clear_at_pivots.ensures.value) c.clear_at_pivots.new.work.coeffs refl c.in-Some.p c.in-Some.ensures.0 c.in-Some.ensures.1
+    (table_of c.insert_row.new.used c.insert_row.new.rows) c.insert_row.ensures.table
+
+pub returns-then-is_zero_right-clause-known : goal.returns-then-is_zero_right-clause-known
+returns-then-is_zero_right-clause-known g c =
+    let both = none_known g.met.F.Field.field g.met.F.Field.action (length c.args.used.now) c.args.width (table_of c.args.used.now c.args.rows.now) c.requires.stored.kept c.args.work.now
+    c.clear_at_pivots.new.work (left_reduced g.met.F.Field.field g.met.F.Field.action (length c.args.used.now) c.args.width (table_of c.args.used.now c.args.rows.now) c.requires.stored.kept c.args.work.now c.clear_at_pivots.new.work c.requires.row c.clear_at_pivots.ensures.value) c.clear_at_pivots.new.work.coeffs refl c.in-None.ensures c.clear_at_pivots.new.work.right refl (c.is_zero_right.ensures.yes c.if-is_zero_right.true) in
+    (λ e. both.0, λ f. refl)
+
+pub returns-then-is_zero_right-clause-clash : goal.returns-then-is_zero_right-clause-clash
+returns-then-is_zero_right-clause-clash g c =
+    let both = none_known g.met.F.Field.field g.met.F.Field.action (length c.args.used.now) c.args.width (table_of c.args.used.now c.args.rows.now) c.requires.stored.kept c.args.work.now
+    c.clear_at_pivots.new.work (left_reduced g.met.F.Field.field g.met.F.Field.action (length c.args.used.now) c.args.width (table_of c.args.used.now c.args.rows.now) c.requires.stored.kept c.args.work.now c.clear_at_pivots.new.work c.requires.row c.clear_at_pivots.ensures.value) c.clear_at_pivots.new.work.coeffs refl c.in-None.ensures c.clear_at_pivots.new.work.right refl (c.is_zero_right.ensures.yes c.if-is_zero_right.true) in
+    (λ e. absurd (cc e), λ f. absurd (both.1 f))
+
+pub returns-else-is_zero_right-clause-known : goal.returns-else-is_zero_right-clause-known
+returns-else-is_zero_right-clause-known g c =
+    let both = none_clash g.met.F.Field.field g.met.F.Field.action (length c.args.used.now) c.args.width (table_of c.args.used.now c.args.rows.now) c.requires.stored.kept c.args.work.now
+    c.clear_at_pivots.new.work (left_reduced g.met.F.Field.field g.met.F.Field.action (length c.args.used.now) c.args.width (table_of c.args.used.now c.args.rows.now) c.requires.stored.kept c.args.work.now c.clear_at_pivots.new.work c.requires.row c.clear_at_pivots.ensures.value) c.clear_at_pivots.new.work.coeffs refl c.in-None.ensures c.clear_at_pivots.new.work.right refl (c.is_zero_right.ensures.no c.if-is_zero_right.false) in
+    (λ e. absurd (cc e), λ f. absurd (both.1 f))
+
+pub returns-else-is_zero_right-clause-clash : goal.returns-else-is_zero_right-clause-clash
+returns-else-is_zero_right-clause-clash g c =
+    let both = none_clash g.met.F.Field.field g.met.F.Field.action (length c.args.used.now) c.args.width (table_of c.args.used.now c.args.rows.now) c.requires.stored.kept c.args.work.now
+    c.clear_at_pivots.new.work (left_reduced g.met.F.Field.field g.met.F.Field.action (length c.args.used.now) c.args.width (table_of c.args.used.now c.args.rows.now) c.requires.stored.kept c.args.work.now c.clear_at_pivots.new.work c.requires.row c.clear_at_pivots.ensures.value) c.clear_at_pivots.new.work.coeffs refl c.in-None.ensures c.clear_at_pivots.new.work.right refl (c.is_zero_right.ensures.no c.if-is_zero_right.false) in
+    (λ e. both.0, λ f. refl)

@@ -1,0 +1,45 @@
+use Rattle.std.proofs.Common.{◌≡◌, bit_xor, length, get_or, sym, ◌∙◌, ap, ap₂, arith}
+use Rattle.sc_echelon.specs.Storage.{table_of}
+use Rattle.sc_echelon.specs.Knowledge.{xor_bytes, act_bytes}
+use Rattle.sc_echelon.proofs.StoredSteps.{slot_on, slot_off, reduce_on, reduce_off, width_at, plus_width, plus_right}
+use Rattle.sc_echelon.proofs.table.clear_at_pivots.Goals as goal
+use Rattle.sc_echelon.proofs.table.clear_at_pivots.Goals.{then-used-k, else-used-k}
+
+pub add_multiple-requires-clause-coeffs : goal.add_multiple-requires-clause-coeffs
+add_multiple-requires-clause-coeffs g c =
+    c.loop-k.invariant.width ∙ c.requires.width ∙ sym (width_at (λ r. length r.coeffs) (length c.args.used.now) c.args.rows.now c.loop-k.k c.index-rows-k.result (omega arith) c.index-rows-k.is c.requires.widths)
+
+pub add_multiple-requires-clause-right : goal.add_multiple-requires-clause-right
+add_multiple-requires-clause-right g c =
+    c.loop-k.invariant.right ∙ sym (width_at (λ r. length r.right) (length c.args.work.now.right) c.args.rows.now c.loop-k.k c.index-rows-k.result (omega arith) c.index-rows-k.is c.requires.rights)
+
+pub loop-k-preserved : goal.loop-k-preserved
+loop-k-preserved g c =
+    let zero = g.F.Field.zero in
+    let add = g.F.Field.add in
+    let sub = g.F.Field.sub in
+    let mul = g.F.Field.mul in
+    let act = act_bytes g.F.Field.act in
+    let used = c.args.used.now in
+    let rows = c.args.rows.now in
+    let t = table_of used rows in
+    let k = c.loop-k.k in
+    elim c.if-used-k.branch [
+      | then-used-k w ↦
+          (let r = w.index-rows-k.result in
+          let x = w.sub-factor.result in
+          let factor : x ≡ sub zero (get_or c.loop-k.work.coeffs k zero) = w.sub-factor.ensures.value ∙ ap₂ sub w.zero.ensures.value w.coeff.ensures.value in
+          let made = w.work-is ∙ w.add_multiple.ensures in
+          let a = c.loop-k.invariant.width ∙ c.requires.width ∙ sym (width_at (λ s. length s.coeffs) (length used) rows k r (omega arith) w.index-rows-k.is c.requires.widths) in
+          let b = c.loop-k.invariant.right ∙ sym (width_at (λ s. length s.right) (length c.args.work.now.right) rows k r (omega arith) w.index-rows-k.is c.requires.rights) in
+          record {
+            value = reduce_on zero add sub mul xor_bytes act t c.args.work.now c.loop-k.work r c.if-used-k.work k x (slot_on used rows c.requires.count k r (omega arith) w.if-used-k.true w.index-rows-k.is) c.loop-k.invariant.value factor made;
+            width = ap (λ s. length s.coeffs) made ∙ plus_width add mul xor_bytes act c.loop-k.work x r a ∙ c.loop-k.invariant.width;
+            right = ap (λ s. length s.right) made ∙ plus_right add mul bit_xor g.F.Field.act c.loop-k.work x r b ∙ c.loop-k.invariant.right;
+          })
+      | else-used-k w ↦ record {
+        value = reduce_off zero add sub mul xor_bytes act t c.args.work.now c.loop-k.work c.if-used-k.work k (slot_off used rows c.requires.count k c.args.work.now (omega arith) w.if-used-k.false) c.loop-k.invariant.value w.work-is;
+        width = ap (λ s. length s.coeffs) w.work-is ∙ c.loop-k.invariant.width;
+        right = ap (λ s. length s.right) w.work-is ∙ c.loop-k.invariant.right;
+      }
+    ]

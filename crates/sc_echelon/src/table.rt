@@ -1,0 +1,174 @@
+//! Equations in reduced form: the row whose pivot is column p stands at place p, and a flag says whether there is one.
+//!
+//! A pivot is the first nonzero coefficient of its row and a one, and every other row has a zero there.
+ghost use Rattle.std.specs.Prelude.{◌≡◌, ◌≢◌, ◌++◌, ◌-◌, ◌↔◌, ◌<◌, ◌≤◌, ℕ, IfOk, All, false, length, map, take, replicate, slice_index_or};
+ghost use Rattle.sc_echelon.specs.Equation.{IsRow};
+ghost use Rattle.sc_echelon.specs.Kept.{known_by, IsKept};
+ghost use Rattle.sc_echelon.specs.Storage.{table_of, ChangedBelow, IsStored};
+ghost use Rattle.sc_echelon.specs.Steps.{clear_at, insert, led, reduce};
+ghost use Rattle.sc_echelon.specs.Knowledge.{IsBytes, zero_bytes, xor_bytes, act_bytes, Follows, Contradicts, Adds, Forgets};
+ghost use Rattle.sc_echelon.specs.Ring.{turn_row};
+
+use crate::equation::Equation;
+use crate::knowledge::Added;
+use sc_field::Field;
+use sc_outside::NoMemory;
+use std::alloc::Global;
+use std::mem;
+
+// A row for each of `cols` columns, with room for an equation.
+pub(crate) fn blank_rows<F: Field>(
+    alloc: Global,
+    cols: usize,
+    width: usize,
+) -> Result<Vec<Equation<F>>, NoMemory>
+    ensures count { IfOk result (λ rows. length rows.items ≡ cols) }
+    ensures widths { IfOk result (λ rows. All (λ r. length r.coeffs ≡ cols) rows.items) }
+    ensures rights { IfOk result (λ rows. All (λ r. length r.right ≡ width) rows.items) }
+{
+    let mut rows = Vec::with_capacity(alloc, cols)?;
+    for _k in 0..cols {
+        let row = Equation::zeros(alloc, cols, width)?;
+        rows.push(row)?;
+    }
+    Ok(rows)
+}
+
+// Clears the row at each pivot of the table that `used` and `rows` store.
+pub(crate) fn clear_at_pivots<F: Field>(work: &mut Equation<F>, used: &[bool], rows: &[Equation<F>])
+    requires count { length rows.now ≡ length used.now }
+    requires width { length work.old.coeffs ≡ length used.now }
+    requires widths { All (λ r. length r.coeffs ≡ length used.now) rows.now }
+    requires rights { All (λ r. length r.right ≡ length work.old.right) rows.now }
+    ensures value { work.new ≡ reduce F.zero F.add F.sub F.mul xor_bytes (act_bytes F.act) (table_of used.now rows.now) (length used.now) work.old }
+    ensures width { length work.new.coeffs ≡ length work.old.coeffs }
+    ensures right { length work.new.right ≡ length work.old.right }
+{
+    for k in 0..used.len() {
+        if used[k] {
+            let factor = F::zero().sub(work.coeff(k));
+            work.add_multiple(factor, &rows[k]);
+        }
+    }
+}
+
+// Clears column `p` in the rows in use, by a row that has a one there.
+fn clear_column<F: Field>(rows: &mut [Equation<F>], used: &[bool], p: usize, by: &Equation<F>)
+    requires count { length rows.old ≡ length used.now }
+    requires p_in { p < length by.now.coeffs }
+    requires widths { All (λ r. length r.coeffs ≡ length by.now.coeffs) rows.old }
+    requires rights { All (λ r. length r.right ≡ length by.now.right) rows.old }
+    ensures cleared { ChangedBelow (clear_at F.zero F.add F.sub F.mul xor_bytes (act_bytes F.act) p by.now) used.now rows.old (length used.now) rows.new }
+    ensures widths { All (λ r. length r.coeffs ≡ length by.now.coeffs) rows.new }
+    ensures rights { All (λ r. length r.right ≡ length by.now.right) rows.new }
+{
+    for k in 0..used.len() {
+        if used[k] {
+            let row = &mut rows[k];
+            let factor = F::zero().sub(row.coeff(p));
+            row.add_multiple(factor, by);
+        }
+    }
+}
+
+// Scales the work row to a one at column `p`, clears that column in the rows in use, and puts the row there.
+pub(crate) fn insert_row<F: Field>(
+    rows: &mut [Equation<F>],
+    used: &mut [bool],
+    work: &mut Equation<F>,
+    p: usize,
+)
+    requires count { length rows.old ≡ length used.old }
+    requires p_in { p < length used.old }
+    requires width { length work.old.coeffs ≡ length used.old }
+    requires lead { slice_index_or work.old.coeffs p F.zero ≢ F.zero }
+    requires widths { All (λ r. length r.coeffs ≡ length work.old.coeffs) rows.old }
+    requires rights { All (λ r. length r.right ≡ length work.old.right) rows.old }
+    ensures table { table_of used.new rows.new ≡ insert F.zero F.add F.sub F.mul xor_bytes (act_bytes F.act) p
+        (led F.zero F.mul F.inv (act_bytes F.act) p work.old) (table_of used.old rows.old) }
+    ensures count { length rows.new ≡ length used.new }
+    ensures flags { length used.new ≡ length used.old }
+    ensures widths { All (λ r. length r.coeffs ≡ length work.old.coeffs) rows.new }
+    ensures rights { All (λ r. length r.right ≡ length work.old.right) rows.new }
+    ensures work_width { length work.new.coeffs ≡ length work.old.coeffs }
+    ensures work_right { length work.new.right ≡ length work.old.right }
+{
+    let lead = work.coeff(p);
+    work.multiply(lead.inv());
+    clear_column(rows, used, p, work);
+    mem::swap(&mut rows[p], work);
+    used[p] = true;
+}
+
+// Adds the equation in the work row to the table.
+pub(crate) fn add_work<F: Field>(
+    rows: &mut [Equation<F>],
+    used: &mut [bool],
+    work: &mut Equation<F>,
+    width: usize,
+) -> Added
+    requires stored { IsStored F.IsElement F.zero F.one width used.old rows.old work.old }
+    requires row { IsRow F.IsElement (IsBytes width) (length used.old) work.old }
+    ensures stored { IsStored F.IsElement F.zero F.one width used.new rows.new work.new }
+    ensures flags { length used.new ≡ length used.old }
+    ensures known { result ≡ Added.Known ↔ Follows F.act (known_by (length used.old) width (table_of used.old rows.old)) work.old }
+    ensures clash { result ≡ Added.Clash ↔ Contradicts F.act (known_by (length used.old) width (table_of used.old rows.old)) work.old }
+    ensures adds { result ≡ Added.New → Adds F.act (known_by (length used.old) width (table_of used.old rows.old)) work.old
+        (known_by (length used.old) width (table_of used.new rows.new)) }
+    ensures stays { result ≢ Added.New → table_of used.new rows.new ≡ table_of used.old rows.old }
+{
+    clear_at_pivots(work, used, rows);
+    match work.first_nonzero() {
+        Some(p) => {
+            insert_row(rows, used, work, p);
+            Added::New
+        }
+        None => {
+            if work.is_zero_right() {
+                Added::Known
+            } else {
+                Added::Clash
+            }
+        }
+    }
+}
+
+// Turns the coefficients of each row.
+fn turn_rows<F: Field>(rows: &mut [Equation<F>], count: usize)
+    requires { All (λ r. count ≤ length r.coeffs) rows.old }
+    ensures { rows.new ≡ map (turn_row count) rows.old }
+{
+    for k in 0..rows.len() {
+        rows[k].turn(count);
+    }
+}
+
+// Turns the flags from `from` on off.
+fn switch_off(flags: &mut [bool], from: usize)
+    requires { from ≤ length flags.old }
+    ensures { flags.new ≡ take from flags.old ++ replicate (length flags.old - from) false }
+{
+    flags[from..].fill(false);
+}
+
+// Forgets the first `count` columns of what is stored.
+pub(crate) fn forget_rows<F: Field>(
+    rows: &mut [Equation<F>],
+    used: &mut [bool],
+    work: &Equation<F>,
+    width: usize,
+    count: usize,
+)
+    requires stored { IsStored F.IsElement F.zero F.one width used.old rows.old work.now }
+    requires fits { count ≤ length used.old }
+    ensures stored { IsStored F.IsElement F.zero F.one width used.new rows.new work.now }
+    ensures flags { length used.new ≡ length used.old }
+    ensures solutions { Forgets F.act count (known_by (length used.old) width (table_of used.old rows.old))
+        (known_by (length used.old) width (table_of used.new rows.new)) }
+{
+    turn_rows(rows, count);
+    rows.rotate_left(count);
+    used.rotate_left(count);
+    let from = used.len() - count;
+    switch_off(used, from);
+}
