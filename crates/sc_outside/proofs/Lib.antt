@@ -13,6 +13,7 @@
 pub mod EndsLaws
 pub mod FaultsLaws
 pub mod JournalSteps
+pub mod MemoryCabinetSteps
 pub mod MemoryPortSteps
 pub mod MemorySinkSteps
 pub mod MovesLaws

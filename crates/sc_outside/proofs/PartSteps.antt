@@ -1,5 +1,5 @@
 -- A part of a buffer that was lent for a read, put back into the whole.
-use Rattle.std.proofs.Common.{◌≡◌, ℕ, ◌+◌, ◌-◌, ◌≤◌, List, ◌++◌, arith, length, take, drop, sym, ap, ◌∙◌, length-take-le, take_all, length-drop}
+use Rattle.std.proofs.Common.{◌≡◌, ℕ, ◌+◌, ◌-◌, ◌≤◌, List, ◌++◌, arith, length, take, drop, sym, ap, ◌∙◌, length-take-le, take_all, length-append, length-drop}
 use Rattle.std.proofs.lemmas.List.{take-append-le}
 use Rattle.std.proofs.Math.Seq.{take-append-add}
 use borrow.Rule.Slice.PartMut.{put_mid, post_of, same_len_mid, mid_of}
@@ -20,3 +20,8 @@ length-put_part f k buf part size = same_len_mid f k buf part size
 -- a slice from a place on is all that follows it
 pub take-rest : (n : ℕ) (xs : List ℕ) → take (length xs - n) (drop n xs) ≡ drop n xs
 take-rest n xs = take_all (length xs - n) (drop n xs) (omega (arith, length-drop n xs))
+
+-- a list written from its start on has its length still
+pub length-written_over : (n : ℕ) (start xs : List ℕ) → n ≡ length xs → length (take n (start ++ drop (length start) xs)) ≡ n
+length-written_over n start xs e =
+    length-take-le n _ (omega (arith, length-append start (drop (length start) xs), length-drop (length start) xs, e))

@@ -1,5 +1,8 @@
+pub mod Cabinet
+pub mod DirCabinet
 pub mod Faults
 pub mod Journal
+pub mod MemoryCabinet
 pub mod MemoryPort
 pub mod MemorySink
 pub mod Pending

@@ -1,8 +1,11 @@
-//! The edge of the program: ports, sinks, and the errors of the outside.
+//! The edge of the program: ports, sinks, cabinets of files, and the errors of the outside.
 #![tactic(auto)]
 
+mod cabinet;
+mod dir_cabinet;
 mod error;
 mod journal;
+mod memory_cabinet;
 mod memory_port;
 mod memory_sink;
 mod pending;
@@ -16,8 +19,11 @@ mod stream_sink;
 mod tests;
 mod whole;
 
+pub use cabinet::{Cabinet, FetchFault};
+pub use dir_cabinet::DirCabinet;
 pub use error::{Failed, NoMemory};
 pub use journal::Move;
+pub use memory_cabinet::MemoryCabinet;
 pub use memory_port::MemoryPort;
 pub use memory_sink::MemorySink;
 pub use pending::Pending;

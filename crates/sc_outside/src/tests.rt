@@ -3,6 +3,7 @@ ghost use Rattle.std.specs.Prelude.{◌<◌, length};
 
 use super::Move::{Read, Written};
 use super::*;
+use std::alloc::Global;
 use std::test::Fail;
 
 // By the bound alone.
@@ -150,5 +151,45 @@ fn the_machines_streams(rt: HostRuntime) -> Result<(), Fail> {
     assert!(rt; read_exact_or_end(&mut port, &mut buf)? <= 16);
     let mut notes = StdSink::new(rt.stderr());
     assert_eq!(rt; put(&mut notes, b"to standard error\n"), Ok(18));
+    Ok(())
+}
+
+// By the bound alone.
+fn get<C: Cabinet>(
+    alloc: Global,
+    cabinet: &mut C,
+    name: &str,
+    limit: usize,
+) -> Result<Vec<u8>, FetchFault> {
+    cabinet.fetch(alloc, name, limit)
+}
+
+#[test]
+fn fetches(rt: HostRuntime) -> Result<(), Fail> {
+    let mut files = Vec::new(rt.alloc());
+    for (name, text) in [("code", "abcd"), ("loss", ""), ("codes", "xy")] {
+        let bytes = Vec::from_slice(rt.alloc(), text.as_bytes())?;
+        files.push((String::from_str(rt.alloc(), name)?, bytes))?;
+    }
+    let fails = Vec::from_slice(rt.alloc(), &[2, 7])?;
+    let mut cabinet = MemoryCabinet::new(files, fails);
+    // The name and the limit of each fetch, and what it answers; the third and the eighth fail.
+    let table: [(&str, usize, Result<&[u8], FetchFault>); 9] = [
+        ("code", 4, Ok(b"abcd")),
+        ("code", 3, Ok(b"abc")),
+        ("code", 4, Err(FetchFault::Failed)),
+        ("codes", 4_194_305, Ok(b"xy")),
+        ("loss", 1, Ok(b"")),
+        ("cod", 9, Err(FetchFault::Failed)),
+        ("code", 0, Ok(b"")),
+        ("cod", 9, Err(FetchFault::Failed)),
+        ("code", 5, Ok(b"abcd")),
+    ];
+    for (name, limit, answer) in table {
+        match get(rt.alloc(), &mut cabinet, name, limit) {
+            Ok(bytes) => assert_eq!(rt; Ok(bytes.as_slice()), answer, "{name}, {limit}"),
+            Err(fault) => assert_eq!(rt; Err(fault), answer, "{name}, {limit}"),
+        }
+    }
     Ok(())
 }
