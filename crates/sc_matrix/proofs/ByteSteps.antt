@@ -45,9 +45,6 @@ pub record GatheredSoFar {A : Type 0} (c : ℕ) (rows : List (List A)) (n : ℕ)
   pub cuts : cut n c xs ≡ take n rows
 
 module _ {A : Type 0} where
-  pub GatheredSoFar-none : (c : ℕ) (rows : List (List A)) (xs : List A) → xs ≡ [] → GatheredSoFar c rows 0 xs
-  GatheredSoFar-none c rows xs e = rw e record { count = omega arith; cuts = refl }
-
   pub GatheredSoFar-more : (c : ℕ) (rows : List (List A)) (n : ℕ) (xs ys : List A) → n < length rows → length ys ≡ c → ys ≡ get_or rows n [] → GatheredSoFar c rows n xs → GatheredSoFar c rows (n + 1) (xs ++ ys)
   GatheredSoFar-more c rows n xs ys h l e so_far =
       let b = length-append xs ys in

@@ -3,7 +3,7 @@ use Rattle.std.proofs.Common.{sym, ◌∙◌}
 use Rattle.sc_field.specs.Field.{IsField}
 use Rattle.sc_matrix.specs.Module.{IsModule}
 use Rattle.sc_matrix.specs.Laws.{AreDotLaws, AreProductLaws, AreKernelLaws, AreRowSpaceLaws, AreTransposeLaws}
-use Rattle.sc_matrix.proofs.ModuleLaws.{value-dot, dot-add_left, dot-scale_left, dot-add_right, dot-scale_right, dot-append, dot_unit}
+use Rattle.sc_matrix.proofs.ModuleLaws.{value-dot, dot-add_left, dot-scale_left, dot-add_right, dot-scale_right, dot-append, dot-zeros_back, dot-zeros_front, dot-picked, dot_unit}
 use Rattle.sc_matrix.proofs.Modules.{dot-combination}
 use Rattle.sc_matrix.proofs.ProductLaws.{entry-product, apply-product, apply-add_vectors, apply-scale_vector, product_assoc, product-sum_left, product-sum_right, apply-identity, product-identity_left}
 use Rattle.sc_matrix.proofs.TransposeLaws.{entry-transpose, transpose-transpose, transpose-product, apply-transpose, product-identity_right}
@@ -19,6 +19,9 @@ module _ {C A : Type 0} {IsElement : C → Type 0} {zero one : C} {add sub mul :
     scale_right = λ p q k cs vs hk hc hv. dot-scale_right laws ml k cs vs hk hc hv;
     unit = λ n i vs hv h. dot_unit laws ml n i vs hv h;
     append = λ p q r cs ds vs ws hc hd hv hw. dot-append laws ml cs ds vs ws (hc.width ∙ sym hv.width) hc hd hv hw;
+    zeros_back = λ p q n cs vs hc hv. dot-zeros_back laws ml n cs vs hc hv;
+    zeros_front = λ p q n cs vs hc hv. dot-zeros_front laws ml n cs vs hc hv;
+    selection = λ p q flags cs vs hc hv. dot-picked laws ml flags cs vs hc hv;
     of_combination = λ p m n q cs rows vs hc hr hv. dot-combination laws ml n cs rows vs hc hr hv;
   }
 

@@ -1,13 +1,14 @@
 -- Laws of a module over a field, and of dot products of scalars and values of the module. A linear combination is such a
 -- dot product in the module of vectors (`vector_module` of Modules). The laws of the field come first: under a bound
 -- `F: Field` they are `g.met.F.Field.field`.
-use Rattle.std.proofs.Common.{◌≡◌, ◌≢◌, ℕ, zero as naught, suc, ◌+◌, ◌<◌, List, [], ◌∷◌, ◌++◌, length, get_or, map, take, replicate, refl, sym, ◌∙◌, ap, ap₂, arith}
+use Rattle.std.proofs.Common.{◌≡◌, ◌≢◌, ℕ, zero as naught, suc, ◌+◌, ◌<◌, Bool, true, false, List, [], ◌∷◌, ◌++◌, length, get_or, map, take, drop, All, replicate, refl, sym, ◌∙◌, ap, ap₂, arith}
 use Rattle.std.proofs.lemmas.List.{take_more}
+use Rattle.std.proofs.lemmas.List.Elements.{All-cons, All-drop, All-nil}
 use Rattle.sc_field.specs.Field.{IsField}
 use Rattle.sc_field.specs.FieldLemmas.{mul_zero, inv_mul}
 use Rattle.sc_matrix.specs.Module.{IsModule, IsLinear}
-use Rattle.sc_matrix.specs.Vector.{IsVector, add_vectors, scale_vector, dot, unit_vector}
-use Rattle.sc_matrix.proofs.VectorLaws.{head, tail, entry_at, IsVector-replicate, IsVector-take}
+use Rattle.sc_matrix.specs.Vector.{IsVector, add_vectors, scale_vector, dot, unit_vector, picked, spread}
+use Rattle.sc_matrix.proofs.VectorLaws.{dot_nil_right, vector_of, head, tail, entry_at, IsVector-replicate, IsVector-take}
 
 module _ {C A : Type 0} {IsElement : C → Type 0} {zero one : C} {add sub mul : C → C → C} {inv : C → C} {IsValue : A → Type 0} {none : A} {plus : A → A → A} {times : C → A → A} (laws : IsField IsElement zero one add sub mul inv) (ml : IsModule IsElement zero one add mul IsValue none plus times) where
   -- ---- sums and products of values
@@ -39,9 +40,6 @@ module _ {C A : Type 0} {IsElement : C → Type 0} {zero one : C} {add sub mul :
   negative_plus v hv =
       ap (plus (negative v)) (sym (ml.times_one v hv)) ∙ sym (ml.times_add (sub zero one) one v minus_element laws.one_element hv)
       ∙ ap (λ (y : C). times y v) (laws.sub_add zero one laws.zero_element laws.one_element) ∙ ml.times_zero v hv
-
-  pub plus_negative : (v : A) → IsValue v → plus v (negative v) ≡ none
-  plus_negative v hv = ml.plus_comm v (negative v) hv (value-negative v hv) ∙ negative_plus v hv
 
   pub plus_cancel : (u v w : A) → IsValue u → IsValue v → IsValue w → plus u v ≡ plus u w → v ≡ w
   plus_cancel u v w hu hv hw e =
@@ -94,6 +92,44 @@ module _ {C A : Type 0} {IsElement : C → Type 0} {zero one : C} {add sub mul :
   dot_zero_right n [] hc = refl
   dot_zero_right naught (c ∷ cs) hc = refl
   dot_zero_right (suc n) (c ∷ cs) hc = ap₂ plus (times_none c (head hc)) (dot_zero_right n cs (tail hc)) ∙ ml.plus_none none ml.none_value
+
+  -- zeros at the back of the scalars, and in front of them
+  pub dot-zeros_back : (n : ℕ) (cs : List C) (vs : List A) {p q : ℕ} → IsVector IsElement p cs → IsVector IsValue q vs
+      → dot none plus times (cs ++ replicate n zero) vs ≡ dot none plus times cs vs
+  dot-zeros_back n [] vs hc hv = dot_zero_left n vs hv
+  dot-zeros_back n (c ∷ cs) [] hc hv = refl
+  dot-zeros_back n (c ∷ cs) (v ∷ vs) hc hv = ap (plus (times c v)) (dot-zeros_back n cs vs (tail hc) (tail hv))
+
+  pub dot-zeros_front : (n : ℕ) (cs : List C) (vs : List A) {p q : ℕ} → IsVector IsElement p cs → IsVector IsValue q vs
+      → dot none plus times (replicate n zero ++ cs) vs ≡ dot none plus times cs (drop n vs)
+  dot-zeros_front naught cs vs hc hv = refl
+  dot-zeros_front (suc n) cs [] hc hv = sym (dot_nil_right none plus times cs)
+  dot-zeros_front (suc n) cs (v ∷ vs) hc hv =
+      ap₂ plus (ml.times_zero v (head hv)) (dot-zeros_front n cs vs hc (tail hv))
+      ∙ none_plus _ (value-dot cs (drop n vs) hc (vector_of (drop n vs) (All-drop IsValue n vs (tail hv).entries)))
+
+  -- the scalars at the places whose flags are set
+  spread_values : (flags : List Bool) (vs : List A) {q : ℕ} → IsVector IsValue q vs → All IsValue (spread none flags vs)
+  spread_values [] vs hv = All-nil IsValue
+  spread_values (true ∷ flags) [] hv = All-cons IsValue none _ ml.none_value (spread_values flags [] hv)
+  spread_values (true ∷ flags) (v ∷ vs) hv = All-cons IsValue v _ (head hv) (spread_values flags vs (tail hv))
+  spread_values (false ∷ flags) vs hv = All-cons IsValue none _ ml.none_value (spread_values flags vs hv)
+
+  pub dot-picked : (flags : List Bool) (cs : List C) (vs : List A) {p q : ℕ} → IsVector IsElement p cs → IsVector IsValue q vs
+      → dot none plus times (picked flags cs) vs ≡ dot none plus times cs (spread none flags vs)
+  dot-picked flags [] vs hc hv = refl
+  dot-picked [] (c ∷ cs) vs hc hv = refl
+  dot-picked (true ∷ flags) (c ∷ cs) [] hc hv =
+      sym
+      (ap₂ plus (times_none c (head hc)) (sym (dot-picked flags cs [] (tail hc) hv) ∙ dot_nil_right none plus times (picked flags cs))
+      ∙ ml.plus_none none ml.none_value)
+  dot-picked (true ∷ flags) (c ∷ cs) (v ∷ vs) hc hv = ap (plus (times c v)) (dot-picked flags cs vs (tail hc) (tail hv))
+  dot-picked (false ∷ flags) (c ∷ cs) vs hc hv =
+      let others = spread none flags vs in
+      dot-picked flags cs vs (tail hc) hv
+      ∙ sym
+      (ap (λ (a : A). plus a (dot none plus times cs others)) (times_none c (head hc))
+      ∙ none_plus _ (value-dot cs others (tail hc) (vector_of others (spread_values flags vs hv))))
 
   pub dot-add_left : (cs ds : List C) (vs : List A) {p q : ℕ} → IsVector IsElement p cs → IsVector IsElement p ds → IsVector IsValue q vs
       → dot none plus times (add_vectors add cs ds) vs ≡ plus (dot none plus times cs vs) (dot none plus times ds vs)

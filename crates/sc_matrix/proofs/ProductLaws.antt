@@ -9,8 +9,8 @@ use Rattle.sc_field.specs.Field.{IsField}
 use Rattle.sc_matrix.specs.Module.{IsModule}
 use Rattle.sc_matrix.specs.Vector.{IsVector, add_vectors, scale_vector, dot, combination, unit_vector}
 use Rattle.sc_matrix.specs.Matrix.{Matrix, IsMatrix, row, row_count, entry, column, apply, product, matrix_sum, identity}
-use Rattle.sc_matrix.proofs.VectorLaws.{map_same, map_const, map-plus, map-map, map-add_vectors, IsVector-map, IsVector-set, IsVector-replicate, get_or-combination}
-use Rattle.sc_matrix.proofs.ModuleLaws.{value-dot, dot-add_left, dot-add_right, dot-scale_right, dot_zero_right, dot_unit}
+use Rattle.sc_matrix.proofs.VectorLaws.{map_same, map_const, map-plus, map-map, map-add_vectors, IsVector-set, IsVector-replicate, get_or-combination}
+use Rattle.sc_matrix.proofs.ModuleLaws.{dot-add_left, dot-add_right, dot-scale_right, dot_zero_right, dot_unit}
 use Rattle.sc_matrix.proofs.Modules.{vector_module, dot-combination, IsVector-combination}
 use Rattle.sc_matrix.proofs.MatrixLaws.{matrix_rows}
 
@@ -50,9 +50,6 @@ module _ {C A : Type 0} {IsElement : C → Type 0} {zero one : C} {add sub mul :
 
   pub apply_zero_vector : (m : Matrix C) (n : ℕ) → IsMatrix IsElement m → apply none plus times m (replicate n none) ≡ replicate (row_count m) none
   apply_zero_vector m n hm = map_const (λ (r : List C). dot none plus times r (replicate n none)) none m.rows (λ r hr. dot_zero_right laws ml n r hr) (matrix_rows hm)
-
-  pub values-apply : {q : ℕ} (m : Matrix C) (v : List A) → IsMatrix IsElement m → IsVector IsValue q v → IsVector IsValue (row_count m) (apply none plus times m v)
-  values-apply m v hm hv = IsVector-map (λ (r : List C). dot none plus times r v) m.rows (λ r hr. value-dot laws ml r v hr hv) (matrix_rows hm)
 
   -- ---- products of matrices
   pub IsMatrix-product : (a : Matrix C) (b : Matrix A) → IsMatrix IsElement a → IsMatrix IsValue b → IsMatrix IsValue (product none plus times a b)

@@ -302,17 +302,3 @@ module _ {A : Type 0} {IsElement : A → Type 0} {zero one : A} {add sub mul : A
             subst (λ (k : Matrix A). RowsAreIn IsElement zero add mul k (add_row add mul m a c b)) (add_row-negative m a b c hm hc ha hb ne)
             (added (add_row add mul m a c b) a b (sub zero c) (IsMatrix-add_row m a b c hm hc ha hb) (laws.sub_element zero c laws.zero_element hc) (omega arith) (omega arith));
       }
-
--- and the kernel, whose vectors may have values of any module
-module _ {C A : Type 0} {IsElement : C → Type 0} {zero one : C} {add sub mul : C → C → C} {inv : C → C} {IsValue : A → Type 0} {none : A} {plus : A → A → A} {times : C → A → A} (laws : IsField IsElement zero one add sub mul inv) (ml : IsModule IsElement zero one add mul IsValue none plus times) where
-  pub kernel-swap_rows : (m : Matrix C) (a b : ℕ) (v : List A) → IsMatrix IsElement m → IsVector IsValue m.cols v → a < row_count m → b < row_count m → IsInKernel none plus times (swap_rows m a b) v ↔ IsInKernel none plus times m v
-  kernel-swap_rows m a b v hm hv ha hb =
-      kernel-one_row_space laws ml (swap_rows m a b) m v (IsMatrix-swap_rows m a b ha hb hm) hm (row_space-swap_rows laws m a b hm ha hb) hv
-
-  pub kernel-scale_row : (m : Matrix C) (a : ℕ) (c : C) (v : List A) → IsMatrix IsElement m → IsVector IsValue m.cols v → a < row_count m → IsElement c → c ≢ zero → IsInKernel none plus times (scale_row mul m a c) v ↔ IsInKernel none plus times m v
-  kernel-scale_row m a c v hm hv ha hc ne =
-      kernel-one_row_space laws ml (scale_row mul m a c) m v (IsMatrix-scale_row laws m a c hm hc ha) hm (row_space-scale_row laws m a c hm hc ne ha) hv
-
-  pub kernel-add_row : (m : Matrix C) (a b : ℕ) (c : C) (v : List A) → IsMatrix IsElement m → IsVector IsValue m.cols v → a < row_count m → b < row_count m → a ≢ b → IsElement c → IsInKernel none plus times (add_row add mul m a c b) v ↔ IsInKernel none plus times m v
-  kernel-add_row m a b c v hm hv ha hb ne hc =
-      kernel-one_row_space laws ml (add_row add mul m a c b) m v (IsMatrix-add_row laws m a b c hm hc ha hb) hm (row_space-add_row laws m a b c hm hc ha hb ne) hv

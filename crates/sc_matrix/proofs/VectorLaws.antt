@@ -12,9 +12,6 @@ module _ {A : Type 0} {P : A → Type 0} where
   pub tail : {n : ℕ} {x : A} {xs : List A} → IsVector P n (x ∷ xs) → IsVector P (n - 1) xs
   tail {n = n} {x = x} {xs = xs} h = let w = h.width in record { width = omega arith; entries = All-tail P x xs h.entries }
 
-  pub cons : {n : ℕ} {x : A} {xs : List A} → P x → IsVector P n xs → IsVector P (n + 1) (x ∷ xs)
-  cons {n = n} {x = x} {xs = xs} hx h = let w = h.width in record { width = omega arith; entries = All-cons P x xs hx h.entries }
-
   pub vector_of : (xs : List A) → All P xs → IsVector P (length xs) xs
   vector_of xs h = record { width = refl; entries = h }
 

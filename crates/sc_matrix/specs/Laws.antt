@@ -1,13 +1,14 @@
 -- What is promised of vectors and matrices, whatever the field is. Each record states laws of linear algebra over the
 -- operations of a field and of a module over it, and a public function has it as its contract.
-use Rattle.std.specs.Prelude.{◌≡◌, ◌≢◌, ◌↔◌, ℕ, ◌<◌, ◌≤◌, List, ◌++◌, map, replicate, slice_index_or}
-use Rattle.sc_matrix.specs.Vector.{IsVector, add_vectors, scale_vector, dot, combination, unit_vector}
+use Rattle.std.specs.Prelude.{◌≡◌, ◌≢◌, ◌↔◌, ℕ, ◌<◌, ◌≤◌, Bool, List, ◌++◌, map, drop, replicate, slice_index_or}
+use Rattle.sc_matrix.specs.Vector.{IsVector, add_vectors, scale_vector, dot, combination, unit_vector, picked, spread}
 use Rattle.sc_matrix.specs.Matrix.{Matrix, IsMatrix, IsInKernel, row_count, row, entry, column, apply, product, matrix_sum, identity, transpose, swap_rows, scale_row, add_row, add_row_from, stacked}
 use Rattle.sc_matrix.specs.RowSpace.{IsSubspace, IsInRowSpace, RowsAreIn, HaveOneRowSpace}
 
 module _ {C A : Type 0} (IsElement : C → Type 0) (zero one : C) (add mul : C → C → C) (IsValue : A → Type 0) (none : A) (plus : A → A → A) (times : C → A → A) where
   -- The dot product of scalars and values is linear on both sides. So are linear combinations, which are dot products of
-  -- coefficients and vectors.
+  -- coefficients and vectors. Zeros at the back or in front of the scalars leave it to the others, and a selection of the
+  -- scalars has the dot product of all of them with zeros at the other places.
   pub record AreDotLaws : Type 0 where
     pub value : (p q : ℕ) (cs : List C) (vs : List A) → IsVector IsElement p cs → IsVector IsValue q vs → IsValue (dot none plus times cs vs)
     pub add_left : (p q : ℕ) (cs ds : List C) (vs : List A) → IsVector IsElement p cs → IsVector IsElement p ds → IsVector IsValue q vs
@@ -21,6 +22,12 @@ module _ {C A : Type 0} (IsElement : C → Type 0) (zero one : C) (add mul : C �
     pub unit : (n i : ℕ) (vs : List A) → IsVector IsValue n vs → i < n → dot none plus times (unit_vector zero one n i) vs ≡ slice_index_or vs i none
     pub append : (p q r : ℕ) (cs ds : List C) (vs ws : List A) → IsVector IsElement p cs → IsVector IsElement q ds → IsVector IsValue p vs → IsVector IsValue r ws
         → dot none plus times (cs ++ ds) (vs ++ ws) ≡ plus (dot none plus times cs vs) (dot none plus times ds ws)
+    pub zeros_back : (p q n : ℕ) (cs : List C) (vs : List A) → IsVector IsElement p cs → IsVector IsValue q vs
+        → dot none plus times (cs ++ replicate n zero) vs ≡ dot none plus times cs vs
+    pub zeros_front : (p q n : ℕ) (cs : List C) (vs : List A) → IsVector IsElement p cs → IsVector IsValue q vs
+        → dot none plus times (replicate n zero ++ cs) vs ≡ dot none plus times cs (drop n vs)
+    pub selection : (p q : ℕ) (flags : List Bool) (cs : List C) (vs : List A) → IsVector IsElement p cs → IsVector IsValue q vs
+        → dot none plus times (picked flags cs) vs ≡ dot none plus times cs (spread none flags vs)
     pub of_combination : (p m n q : ℕ) (cs : List C) (rows : List (List C)) (vs : List A) → IsVector IsElement p cs → IsVector (IsVector IsElement n) m rows → IsVector IsValue q vs
         → dot none plus times (combination zero add mul n cs rows) vs ≡ dot none plus times cs (map (λ r. dot none plus times r vs) rows)
 

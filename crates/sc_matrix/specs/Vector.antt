@@ -1,7 +1,7 @@
 -- Vectors, as lists of their entries, in the standard terms of linear algebra. A scalar may be of another type than an
 -- entry: a field's elements multiply elements, bytes, and vectors of these. The operations are parameters, so that a
 -- clause writes `F.add` and `F.mul`, or `bit_xor` and `F.act`.
-use Rattle.std.specs.Prelude.{◌≡◌, ℕ, List, [], ◌∷◌, map, replicate, length, All, slice_set}
+use Rattle.std.specs.Prelude.{◌≡◌, ℕ, Bool, true, false, List, [], ◌∷◌, map, replicate, length, All, slice_set}
 
 -- a vector of n entries of a kind, as elements of a field, or bytes
 pub record IsVector {A : Type 0} (IsEntry : A → Type 0) (n : ℕ) (v : List A) : Type 0 where
@@ -32,3 +32,17 @@ combination zero add mul n cs vs = dot (replicate n zero) (add_vectors add) (sca
 -- the vector of n entries that has a one at place i and zeros elsewhere
 abbrev pub unit_vector : {A : Type 0} → A → A → ℕ → ℕ → List A
 unit_vector zero one n i = slice_set (replicate n zero) i one
+
+-- the entries at the places whose flags are set, in order
+abbrev pub picked : {A : Type 0} → List Bool → List A → List A
+picked flags [] = []
+picked [] (x ∷ xs) = []
+picked (true ∷ flags) (x ∷ xs) = x ∷ picked flags xs
+picked (false ∷ flags) (x ∷ xs) = picked flags xs
+
+-- a vector with these entries, in order, at the places whose flags are set, and zeros elsewhere
+abbrev pub spread : {A : Type 0} → A → List Bool → List A → List A
+spread zero [] xs = []
+spread zero (true ∷ flags) [] = zero ∷ spread zero flags []
+spread zero (true ∷ flags) (x ∷ xs) = x ∷ spread zero flags xs
+spread zero (false ∷ flags) xs = zero ∷ spread zero flags xs
