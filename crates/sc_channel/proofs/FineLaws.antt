@@ -3,7 +3,7 @@ use Rattle.std.proofs.Common.{◌≡◌, ℕ, ◌+◌, ◌<◌, ◌≤◌, Bool,
 use Rattle.std.proofs.lemmas.Bool.{cases_lt}
 use Rattle.std.proofs.lemmas.List.{append_assoc, take-append-drop, length-take, length-append, nil_from_length}
 use Rattle.sc_channel.specs.Channel.{ChannelNumbers}
-use Rattle.sc_channel.specs.Flags.{IsSet, set_count, span, window}
+use Rattle.sc_channel.specs.Flags.{IsSet, window}
 use Rattle.sc_channel.specs.Loss.{IsFine, few, close, IsAdmissible, AllWindowsFine, IsFirstBadWindow}
 use Rattle.sc_channel.proofs.SetCountSteps.{IsSet-in_range, IsSet-part, IsSet-take, IsSet-take_from, IsSet-drop, IsSet-drop_from, set_count-drop, set_count-fewer}
 use Rattle.sc_channel.proofs.SpanSteps.{span-le}
@@ -11,11 +11,6 @@ use Rattle.sc_channel.proofs.SpanSteps.{span-le}
 -- no flags are fine
 pub IsFine-nil : (b n : ℕ) → IsFine b n []
 IsFine-nil b n = few (omega arith)
-
--- flags with more than n set ones and a span above b aren't fine
-pub IsFine-refuted : (b n : ℕ) (flags : List Bool) → n < set_count flags → b < span flags → IsFine b n flags → ⊥
-IsFine-refuted b n flags many wide (few h) = absurd (omega arith)
-IsFine-refuted b n flags many wide (close h) = absurd (omega arith)
 
 -- flags stay fine where they are moved and fewer of them are set
 pub IsFine-moved : (b n : ℕ) (xs ys : List Bool) (places : ℕ) → ((k : ℕ) → IsSet ys k → IsSet xs (places + k)) → IsFine b n xs → IsFine b n ys

@@ -2,7 +2,7 @@
 use Rattle.std.proofs.Common.{◌≡◌, ℕ, suc, ◌+◌, ◌<◌, ◌≤◌, Bool, true, false, cond, List, [], ◌∷◌, ◌++◌, length, get_or, take, drop, refl, arith, sym, ◌∙◌, inl, inr}
 use Rattle.std.proofs.lemmas.Bool.{both_ways, cases_lt}
 use Rattle.std.proofs.lemmas.List.{get_or_past, get_or-take, get_or-drop, get_or-append-add, get_or_append_left, length-take, take-take}
-use Rattle.std.proofs.lemmas.List.Sums.{sum_by-cons, sum_by-append, sum_by-take-drop, sum_by-take-le, sum_by_more}
+use Rattle.std.proofs.lemmas.List.Sums.{sum_by-cons, sum_by-take-drop, sum_by-take-le, sum_by_more}
 use Rattle.sc_channel.specs.Flags.{IsSet, set_count}
 
 -- a set flag stands within the list
@@ -29,9 +29,6 @@ IsSet-drop_from n flags i set = get_or-drop n flags i false ∙ set
 pub IsSet-part : (before part after : List Bool) (i : ℕ) → IsSet part i → IsSet (before ++ (part ++ after)) (length before + i)
 IsSet-part before part after i set =
     get_or-append-add before (part ++ after) i false ∙ (get_or_append_left part after false i (IsSet-in_range part i set) ∙ set)
-
-pub set_count-append : (xs ys : List Bool) → set_count (xs ++ ys) ≡ set_count xs + set_count ys
-set_count-append xs ys = sum_by-append (λ flag. cond flag 1 0) xs ys
 
 pub set_count-cons : (flag : Bool) (flags : List Bool) → set_count (flag ∷ flags) ≡ cond flag 1 0 + set_count flags
 set_count-cons flag flags = sum_by-cons (λ x. cond x 1 0) flag flags

@@ -1,7 +1,7 @@
 -- A byte is the xor of its halves, so what is additive on bytes goes by two tables.
-use Rattle.std.proofs.Common.{◌≡◌, ℕ, ◌+◌, ◌*◌, ◌/◌, ◌%◌, ◌^◌, ◌<◌, List, bit_and, bit_xor, sym, ap, ap₂, ◌∙◌, arith}
+use Rattle.std.proofs.Common.{◌≡◌, ℕ, ◌+◌, ◌*◌, ◌/◌, ◌%◌, ◌^◌, ◌<◌, List, bit_xor, sym, ap, ap₂, ◌∙◌, arith}
 use Rattle.std.specs.Int.Bits.{xor_shifted}
-use Rattle.std.proofs.lemmas.Nat.{xor_comm, and_mask}
+use Rattle.std.proofs.lemmas.Nat.{xor_comm}
 use Rattle.sc_field.specs.Field.{IsAction}
 use Rattle.sc_field.specs.Scale.{IsTableOf, IsByHalves}
 
@@ -18,7 +18,3 @@ pub IsByHalves-tables : {A : Type 0} {IsElement : A → Type 0} {zero one : A} {
 IsByHalves-tables {act = act} laws c low high element p q b lt =
     ap (act c) (sym (halves b)) ∙ laws.of_xor c (1 * (b % 16)) (16 * (b / 16)) element (omega arith) (omega arith)
     ∙ sym (ap₂ bit_xor (p (b % 16) (omega arith)) (q (b / 16) (omega arith)))
-
--- the low half as the program takes it
-pub low_half : (b : ℕ) → bit_and b 15 ≡ b % 16
-low_half b = and_mask b 4

@@ -1,4 +1,4 @@
--- The sum of a slice and the image of another: its length, its places, and that the order of two sums is free.
+-- The sum of a slice and the image of another: its length and its places.
 use Rattle.std.proofs.Common.{◌≡◌, ℕ, zero, suc, ◌<◌, List, [], ◌∷◌, map, length, get_or, replicate, bit_xor, refl, sym, ap, ap₂, ◌∙◌, arith}
 use Rattle.std.specs.Int.Bits.{xor_assoc, xor_zero_r}
 use Rattle.std.proofs.lemmas.Nat.{xor_comm}
@@ -20,16 +20,6 @@ pub scaled_sum-zero : (f : ℕ → ℕ) → ((b : ℕ) → f b ≡ 0) → (dst s
 scaled_sum-zero f none [] src = refl
 scaled_sum-zero f none (d ∷ dst) [] = refl
 scaled_sum-zero f none (d ∷ dst) (s ∷ src) = ap₂ (λ (x : ℕ) (xs : List ℕ). x ∷ xs) (ap (bit_xor d) (none s) ∙ xor_zero_r d) (scaled_sum-zero f none dst src)
-
-xor_swap : (d x y : ℕ) → bit_xor (bit_xor d x) y ≡ bit_xor (bit_xor d y) x
-xor_swap d x y = xor_assoc d x y ∙ ap (bit_xor d) (xor_comm x y) ∙ sym (xor_assoc d y x)
-
-pub scaled_sum-comm : (f g : ℕ → ℕ) (dst a b : List ℕ) → scaled_sum f (scaled_sum g dst a) b ≡ scaled_sum g (scaled_sum f dst b) a
-scaled_sum-comm f g [] a b = refl
-scaled_sum-comm f g (d ∷ dst) [] [] = refl
-scaled_sum-comm f g (d ∷ dst) [] (y ∷ b) = refl
-scaled_sum-comm f g (d ∷ dst) (x ∷ a) [] = refl
-scaled_sum-comm f g (d ∷ dst) (x ∷ a) (y ∷ b) = ap₂ (λ (n : ℕ) (xs : List ℕ). n ∷ xs) (xor_swap d (g x) (f y)) (scaled_sum-comm f g dst a b)
 
 -- two sums with one slice are one sum
 pub scaled_sum-twice : (f g h : ℕ → ℕ) → ((b : ℕ) → h b ≡ bit_xor (f b) (g b)) → (dst src : List ℕ) → scaled_sum g (scaled_sum f dst src) src ≡ scaled_sum h dst src

@@ -8,12 +8,6 @@ use Rattle.sc_rtp.specs.Head.{flag, IsHead, first_byte, second_byte, head_bytes,
 use Rattle.sc_rtp.specs.Reading.{AreBytes}
 use Rattle.sc_rtp.proofs.WordLaws.{to_be_bytes-number16, to_be_bytes-number32, number16-fits, number32-fits}
 
-pub length-head_bytes : (h : Head) → length (head_bytes h) ≡ 12
-length-head_bytes h = refl
-
-pub drop-head_bytes : (h : Head) (rest : List ℕ) → drop 12 (head_bytes h ++ rest) ≡ rest
-drop-head_bytes h rest = refl
-
 -- a bit is the flag that it is one
 flag-bit : (n : ℕ) → n < 2 → flag (n == 1) ≡ n
 flag-bit zero small = refl

@@ -7,12 +7,13 @@ use Rattle.sc_rtp.specs.Head.{number16, number32}
 use Rattle.sc_rtp.specs.Packet.{words_bytes, AreWords}
 use Rattle.sc_rtp.specs.Reading.{words_of, AreBytes}
 
-two_fit : (a b : ℕ) → a < 256 → b < 256 → (i : ℕ) → get_or (a ∷ b ∷ []) i 0 < 256
+-- places of two and of four bytes hold bytes
+pub two_fit : (a b : ℕ) → a < 256 → b < 256 → (i : ℕ) → get_or (a ∷ b ∷ []) i 0 < 256
 two_fit a b f g zero = f
 two_fit a b f g (suc zero) = g
 two_fit a b f g (suc (suc i)) = omega arith
 
-four_fit : (a b c d : ℕ) → a < 256 → b < 256 → c < 256 → d < 256 → (i : ℕ) → get_or (a ∷ b ∷ c ∷ d ∷ []) i 0 < 256
+pub four_fit : (a b c d : ℕ) → a < 256 → b < 256 → c < 256 → d < 256 → (i : ℕ) → get_or (a ∷ b ∷ c ∷ d ∷ []) i 0 < 256
 four_fit a b c d f g h k zero = f
 four_fit a b c d f g h k (suc zero) = g
 four_fit a b c d f g h k (suc (suc zero)) = h

@@ -1,7 +1,8 @@
 -- The eight bytes before a record's body, and the numbers that they spell.
-use Rattle.std.proofs.Common.{◌≡◌, ℕ, zero, suc, ◌^◌, ◌<◌, List, [], ◌∷◌, ◌++◌, length, get_or, refl, sym, ap, ◌∙◌, arith}
+use Rattle.std.proofs.Common.{◌≡◌, ℕ, ◌^◌, ◌<◌, List, [], ◌∷◌, ◌++◌, length, get_or, refl, sym, ap, ◌∙◌, arith}
 use Rattle.std.proofs.lemmas.Nat.{be_bytes_2, be_bytes_4, from_be_bytes-to_be_bytes_2}
 use Rattle.std.specs.Int.{w16, w32, to_be_bytes, from_be_bytes}
+use Rattle.sc_rtp.proofs.WordLaws.{two_fit, four_fit}
 use Rattle.sc_rtpdump.specs.Record.{head_bytes, length_field}
 
 -- eight bytes, in the three fields
@@ -21,18 +22,6 @@ eight (a ∷ b ∷ c ∷ []) size = absurd (omega arith)
 eight (a ∷ b ∷ []) size = absurd (omega arith)
 eight (a ∷ []) size = absurd (omega arith)
 eight [] size = absurd (omega arith)
-
-two_fit : (a b : ℕ) → a < 256 → b < 256 → (i : ℕ) → get_or (a ∷ b ∷ []) i 0 < 256
-two_fit a b f g zero = f
-two_fit a b f g (suc zero) = g
-two_fit a b f g (suc (suc i)) = omega arith
-
-four_fit : (a b c d : ℕ) → a < 256 → b < 256 → c < 256 → d < 256 → (i : ℕ) → get_or (a ∷ b ∷ c ∷ d ∷ []) i 0 < 256
-four_fit a b c d f g h k zero = f
-four_fit a b c d f g h k (suc zero) = g
-four_fit a b c d f g h k (suc (suc zero)) = h
-four_fit a b c d f g h k (suc (suc (suc zero))) = k
-four_fit a b c d f g h k (suc (suc (suc (suc i)))) = omega arith
 
 -- the numbers that eight bytes spell are spelled by them
 pub head_bytes-from : (bs : List ℕ) (len plen offset : ℕ) → length bs ≡ 8 → ((i : ℕ) → get_or bs i 0 < 256)
