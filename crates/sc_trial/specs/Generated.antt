@@ -48,3 +48,8 @@ pub record GivesOrHolds (old new : Told) (text waiting : List ℕ) : Type 0 wher
   pub put : List ℕ
   pub puts : PutsAll old new put
   pub parts : text ≡ put ++ waiting
+
+-- nothing was read, and no read failed
+pub record IsUnread (old new : Told) : Type 0 where
+  pub left : new.left ≡ old.left
+  pub read_faults : new.read_faults ≡ old.read_faults

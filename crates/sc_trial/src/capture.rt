@@ -7,7 +7,7 @@ ghost use Rattle.sc_outside.specs.Ends.{Ends};
 ghost use Rattle.sc_outside.specs.Whole.{WriteFailed};
 ghost use Rattle.sc_rtpdump.specs.Record.{record_bytes};
 ghost use Rattle.sc_rtpdump.specs.Capture.{records_bytes};
-ghost use Rattle.sc_trial.specs.Generated.{generated_record, generated_records, generating, GivesOrHolds};
+ghost use Rattle.sc_trial.specs.Generated.{generated_record, generated_records, generating, GivesOrHolds, IsUnread};
 ghost use Rattle.sc_trial.specs.declared.capture.TheConstants.{MAX_COUNT, MIN_SIZE, MAX_SIZE};
 
 use super::draw::draw;
@@ -127,7 +127,8 @@ pub fn gen_capture<P: Port>(
     requires count { count ≤ MAX_COUNT }
     requires least { MIN_SIZE ≤ size }
     requires greatest { size ≤ MAX_SIZE }
-    ensures { Ends (generating seed count size) (P.told port.old) (P.told port.new) result }
+    ensures ends { Ends (generating seed count size) (P.told port.old) (P.told port.new) result }
+    ensures unread { IsUnread (P.told port.old) (P.told port.new) }
 {
     let Ok(mut pending) = Pending::new(alloc) else {
         return Err(GenFault::Memory);
