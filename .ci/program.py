@@ -4,6 +4,7 @@
 What is wanted is worked out from the format alone, by a few lines of another language.
 """
 import os
+import struct
 import subprocess
 import sys
 import tempfile
@@ -24,6 +25,26 @@ def thinned(data, loss):
             out.append(data[at:end])
         at = end
     assert at == len(data), "the loss word has a character for each record"
+    return b"".join(out)
+
+
+def generated(seed, count, size):
+    """The standard preamble, and records of RTP packets with the low bytes of the words of PCG32 (O'Neill's reference code)."""
+    mask = (1 << 64) - 1
+    increment = 2 * 54 + 1
+    step = lambda state: (state * 6364136223846793005 + increment) & mask
+    state = step((step(0) + seed) & mask)
+    out = [b"#!rtpplay1.0 127.0.0.1/5004\n", bytes(8), bytes([127, 0, 0, 1]), (5004).to_bytes(2, "big"), bytes(2)]
+    for i in range(count):
+        out.append(struct.pack(">HHI", 8 + size, size, 20 * i))
+        out.append(struct.pack(">BBHII", 0x80, 0, i % 65536, 160 * i % 2**32, 0x12345678))
+        drawn = bytearray()
+        for _ in range(size - 12):
+            mixed = (state >> 18 ^ state) >> 27 & 0xFFFFFFFF
+            turn = state >> 59
+            drawn.append((mixed >> turn | mixed << (-turn & 31)) & 0xFF)
+            state = step(state)
+        out.append(drawn)
     return b"".join(out)
 
 
@@ -75,15 +96,25 @@ with tempfile.TemporaryDirectory() as folder:
     answers("more records", lose + ["0"], held(two), 3, start + record(b"one"), b"flags 1 more records\n")
     answers("fewer records", lose + ["0010"], held(two), 3, two, b"flags 4 records 2\n")
 
+    # Generated captures. They leave the input alone, a folder too, which can't be read.
+    directory = os.open(folder, os.O_RDONLY)
+    for seed, count, size in [(42, 1, 16), (42, 0, 12), (7, 1200, 172), (2**32 + 2, 3, 1472), (2**64 - 1, 66000, 12)]:
+        words = ["gen", str(seed), str(count), str(size)]
+        answers(" ".join(words), words, directory, 0, generated(seed, count, size), b"records %d\n" % count)
+    os.close(directory)
+    for line in ["gen 42 1 11", "gen 42 1 1473", "gen 42 3999961 12", "gen 18446744073709551616 1 12", "gen 042 1 12", "gen 42 1"]:
+        answers(line, line.split(), held(capture), 2, b"", b"usage\n")
+
     # A folder can't be read, and nothing can be written to a device that is full.
     directory = os.open(folder, os.O_RDONLY)
     answers("a failed read", lose + ["0"], directory, 7, b"", b"read fault\n")
     os.close(directory)
     if os.path.exists("/dev/full"):
         with open("/dev/full", "wb") as full:
-            done = run(lose + [loss], held(capture), stdout=full)
-        expect("a failed write: status", done.returncode, 8)
-        expect("a failed write: note", done.stderr, b"write fault\n")
+            for words in [lose + [loss], ["gen", "7", "3", "20"]]:
+                done = run(words, held(capture), stdout=full)
+                expect(f"{words[0]}, a failed write: status", done.returncode, 8)
+                expect(f"{words[0]}, a failed write: note", done.stderr, b"write fault\n")
 
     # The program's own name isn't read.
     other = os.path.join(folder.encode(), b"\xff\xfe")

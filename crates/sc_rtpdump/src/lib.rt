@@ -11,6 +11,7 @@ mod record;
 mod thin;
 
 pub use fault::DumpFault;
+pub use head::Head;
 pub use kind::{Kind, kind_of};
 pub use next::{next_record, write_record};
 pub use preamble::{Preamble, read_preamble};

@@ -14,15 +14,17 @@ use Rattle.sc_rtpdump.specs.Record.{Break, short_head, short_length, cut_body, F
 use Rattle.sc_rtpdump.specs.Capture.{Parts, Reading, no_preamble, reads, reading_of}
 use Rattle.sc_rtpdump.specs.Thin.{break_fault, end_at, rest_end, thinning, thin_end}
 use Rattle.sc_rtpdump.proofs.ThinLaws.{thinning-IsJob}
+use Rattle.sc_trial.specs.Generated.{generated}
 use Rattle.streamcode.specs.declared.end.End.{End}
-use Rattle.streamcode.specs.declared.end.End.TheVariants.{Usage, LossRefused, Capture, MoreRecords, FewerRecords, Thinned, ReadFault, WriteFault, NoMemory}
+use Rattle.streamcode.specs.declared.end.End.TheVariants.{Generated, Usage, LossRefused, Capture, MoreRecords, FewerRecords, Thinned, ReadFault, WriteFault, NoMemory}
 use Rattle.streamcode.specs.End.{status_of, end_of_drop}
-use Rattle.streamcode.specs.Jobs.{refusal, lose_by, lose_job, command_job, IsDueStatus, IsOutsideStatus, IsQuiet}
-use Rattle.streamcode.specs.Words.{Command, lose_word}
+use Rattle.streamcode.specs.Jobs.{refusal, lose_by, lose_job, gen_job, command_job, IsDueStatus, IsOutsideStatus, IsQuiet, IsSilent}
+use Rattle.streamcode.specs.Words.{Command, lose_word, generate}
 
 -- ends that the words and the input decide
 abbrev pub IsOfInput : End → Type 0
 IsOfInput (Thinned dropped) = Unit {0}
+IsOfInput (Generated records) = Unit {0}
 IsOfInput (LossRefused window) = Unit {0}
 IsOfInput (Capture fault) = Unit {0}
 IsOfInput (MoreRecords flags) = Unit {0}
@@ -38,6 +40,7 @@ record IsInside (status : ℕ) : Type 0 where
 
 of_input_inside : (end : End) → IsOfInput end → IsInside (status_of end)
 of_input_inside (Thinned dropped) h = record { low = inl refl }
+of_input_inside (Generated records) h = record { low = inl refl }
 of_input_inside (LossRefused window) h = record { low = inr (inl refl) }
 of_input_inside (Capture fault) h = record { low = inr (inr refl) }
 of_input_inside (MoreRecords flags) h = record { low = inr (inr refl) }
@@ -102,8 +105,18 @@ lose_by-is None flags = record {
   of_input = λ input. drop_of_input flags (reading_of input);
 }
 
+gen_job-is : (seed count size : ℕ) → IsProgramJob (gen_job seed count size)
+gen_job-is seed count size = record {
+  is_job = IsJob-at_once _ true [] ReadFault WriteFault NoMemory (IsPrefix-nil (generated seed count size));
+  read_failed = refl;
+  write_failed = refl;
+  no_memory = refl;
+  of_input = λ input. tt;
+}
+
 pub command_job-is : (command : Command) → IsProgramJob (command_job (Some command))
 command_job-is (lose_word channel flags) = lose_by-is (bad_window channel flags) flags
+command_job-is (generate seed count size) = gen_job-is seed count size
 
 pub command_job-grows : (command : Option Command) → IsJob (command_job command)
 command_job-grows None = refusal-grows false Usage
@@ -129,6 +142,11 @@ pub lose_thinned : (channel : ChannelNumbers) (flags : List Bool) (old new : Tol
     → Ends (thinning flags) old new result → Ends (lose_job channel flags) old new (end_of_drop (length flags) result)
 lose_thinned channel flags old new result e h =
     subst (λ w. Ends (lose_by w flags) old new (end_of_drop (length flags) result)) (sym e) (Ends-told_as (end_of_drop (length flags)) (thinning flags) old new result h)
+
+-- a generated capture isn't empty
+pub gen_job-gives : (seed count size : ℕ) → IsSilent (gen_job seed count size) → ⊥
+unfolding generated
+gen_job-gives seed count size silent = cc silent.nothing
 
 -- ---- the status of a command's run, by its cause
 

@@ -10,10 +10,10 @@ use Rattle.std.specs.Str.{bytes_eq}
 use Rattle.sc_channel.specs.Channel.{ChannelNumbers, IsChannel, is_channel}
 use Rattle.sc_channel.proofs.ChannelLaws.{is_channel-to, is_channel-from}
 use Rattle.sc_channel.specs.declared.flags.TheConstants.{MAX_FLAGS}
-use Rattle.streamcode.specs.Words.{Command, lose_word, number_of, channel_at, channel_of, is_flag, is_lost, is_loss_word, flags_of, lose_at, lose_of, command_of}
+use Rattle.streamcode.specs.Words.{Command, lose_word, generate, number_to, channel_at, channel_of, is_flag, is_lost, is_loss_word, flags_of, lose_at, lose_of, gen_at, gen_of, command_of}
 use Rattle.streamcode.specs.Forms.{character_of, words_of, IsWithinLimits}
 use Rattle.streamcode.proofs.Forms.{flags_of-word, flags_of-none}
-use Rattle.streamcode.proofs.Numbers.{number_of-to_decimal, number_of-decimal}
+use Rattle.streamcode.proofs.Numbers.{number_to-to_decimal, number_to-decimal}
 
 -- flags and their characters
 is_lost-characters : (flags : List Bool) → map is_lost (map character_of flags) ≡ flags
@@ -101,35 +101,97 @@ lose_of-to (w ∷ b ∷ n ∷ []) c flags is = absurd (cc)
 lose_of-to (w ∷ b ∷ n ∷ t ∷ []) c flags is = absurd (cc)
 lose_of-to (w ∷ b ∷ n ∷ t ∷ loss ∷ []) c flags is =
     let parts = lose_at-to (channel_of w b n t) (flags_of loss) c flags is in
-    let numbers = channel_at-to (number_of w) (number_of b) (number_of n) (number_of t) c parts.0 in
-    let w_text = number_of-to_decimal w c.w numbers.w_is in
-    let b_text = number_of-to_decimal b c.b numbers.b_is in
-    let n_text = number_of-to_decimal n c.n numbers.n_is in
-    let t_text = number_of-to_decimal t c.t numbers.t_is in
+    let numbers = channel_at-to (number_to 4294967295 w) (number_to 4294967295 b) (number_to 4294967295 n) (number_to 4294967295 t) c parts.0 in
+    let w_text = number_to-to_decimal 4294967295 w c.w (omega arith) numbers.w_is in
+    let b_text = number_to-to_decimal 4294967295 b c.b (omega arith) numbers.b_is in
+    let n_text = number_to-to_decimal 4294967295 n c.n (omega arith) numbers.n_is in
+    let t_text = number_to-to_decimal 4294967295 t c.t (omega arith) numbers.t_is in
     let loss_text = flags_of-to loss flags parts.1 in
     (cc, (is_channel-to c numbers.channel, loss_text.1))
 lose_of-to (w ∷ b ∷ n ∷ t ∷ loss ∷ more ∷ rest) c flags is = absurd (cc)
 
-named : (name : List ℕ) (words : List (List ℕ)) (command : Command) (test : Bool) → bytes_eq name (codes "lose") ≡ test → cond test (lose_of words) None ≡ Some command → (name ∷ words ≡ words_of command) × IsWithinLimits command
-named name words command false other is = absurd (cc)
-named name words (lose_word c flags) true lose is =
+gen_at-to : (a b c : Option ℕ) (seed count size : ℕ) → gen_at a b c ≡ Some (generate seed count size) → (a ≡ Some seed) × (b ≡ Some count) × (c ≡ Some size) × (12 ≤ size)
+gen_at-to (Some a) (Some b) (Some c) seed count size is =
+    let parts = cond_some (nat_le 12 c) (generate a b c) (generate seed count size) is in
+    let same = parts.1 in
+    (cc, cc, cc, (let c_is : c ≡ size = cc in grind (arith, nat_tests, parts.0)))
+gen_at-to (Some a) (Some b) None seed count size is = absurd (cc)
+gen_at-to (Some a) None c seed count size is = absurd (cc)
+gen_at-to None b c seed count size is = absurd (cc)
+
+gen_of-to : (words : List (List ℕ)) (seed count size : ℕ) → gen_of words ≡ Some (generate seed count size) → (words ≡ decimal seed ∷ decimal count ∷ decimal size ∷ []) × IsWithinLimits (generate seed count size)
+gen_of-to [] seed count size is = absurd (cc)
+gen_of-to (a ∷ []) seed count size is = absurd (cc)
+gen_of-to (a ∷ b ∷ []) seed count size is = absurd (cc)
+gen_of-to (a ∷ b ∷ c ∷ []) seed count size is =
+    let parts = gen_at-to (number_to 18446744073709551615 a) (number_to 3999960 b) (number_to 1472 c) seed count size is in
+    let seed_text = number_to-to_decimal 18446744073709551615 a seed (omega arith) parts.0 in
+    let count_text = number_to-to_decimal 3999960 b count (omega arith) parts.1 in
+    let size_text = number_to-to_decimal 1472 c size (omega arith) parts.2 in
+    (cc, (seed_text.1, count_text.1, parts.3, size_text.1))
+gen_of-to (a ∷ b ∷ c ∷ more ∷ rest) seed count size is = absurd (cc)
+
+-- the words behind a name are those of its own command alone
+lose_at-own : (o : Option ChannelNumbers) (f : Option (List Bool)) (seed count size : ℕ) → lose_at o f ≡ Some (generate seed count size) → ⊥
+lose_at-own (Some d) (Some gs) seed count size is = cc
+lose_at-own (Some d) None seed count size is = cc
+lose_at-own None f seed count size is = cc
+
+lose_of-own : (words : List (List ℕ)) (seed count size : ℕ) → lose_of words ≡ Some (generate seed count size) → ⊥
+lose_of-own [] seed count size is = cc
+lose_of-own (w ∷ []) seed count size is = cc
+lose_of-own (w ∷ b ∷ []) seed count size is = cc
+lose_of-own (w ∷ b ∷ n ∷ []) seed count size is = cc
+lose_of-own (w ∷ b ∷ n ∷ t ∷ []) seed count size is = cc
+lose_of-own (w ∷ b ∷ n ∷ t ∷ loss ∷ []) seed count size is = lose_at-own (channel_of w b n t) (flags_of loss) seed count size is
+lose_of-own (w ∷ b ∷ n ∷ t ∷ loss ∷ more ∷ rest) seed count size is = cc
+
+gen_at-own : (a b c : Option ℕ) (channel : ChannelNumbers) (flags : List Bool) → gen_at a b c ≡ Some (lose_word channel flags) → ⊥
+gen_at-own (Some a) (Some b) (Some c) channel flags is = let parts = cond_some (nat_le 12 c) (generate a b c) (lose_word channel flags) is in let same = parts.1 in cc
+gen_at-own (Some a) (Some b) None channel flags is = cc
+gen_at-own (Some a) None c channel flags is = cc
+gen_at-own None b c channel flags is = cc
+
+gen_of-own : (words : List (List ℕ)) (channel : ChannelNumbers) (flags : List Bool) → gen_of words ≡ Some (lose_word channel flags) → ⊥
+gen_of-own [] channel flags is = cc
+gen_of-own (a ∷ []) channel flags is = cc
+gen_of-own (a ∷ b ∷ []) channel flags is = cc
+gen_of-own (a ∷ b ∷ c ∷ []) channel flags is = gen_at-own (number_to 18446744073709551615 a) (number_to 3999960 b) (number_to 1472 c) channel flags is
+gen_of-own (a ∷ b ∷ c ∷ more ∷ rest) channel flags is = cc
+
+named : (name : List ℕ) (words : List (List ℕ)) (command : Command) (lose gen : Bool) → bytes_eq name (codes "lose") ≡ lose → bytes_eq name (codes "gen") ≡ gen
+    → cond lose (lose_of words) (cond gen (gen_of words) None) ≡ Some command → (name ∷ words ≡ words_of command) × IsWithinLimits command
+named name words command false false here there is = absurd (cc)
+named name words (lose_word c flags) true gen here there is =
     let parts = lose_of-to words c flags is in
-    let name_text = (bytes_eq-Decides name (codes "lose")).0 lose in
+    let name_text = (bytes_eq-Decides name (codes "lose")).0 here in
+    (cc, parts.1)
+named name words (generate seed count size) true gen here there is = absurd (lose_of-own words seed count size is)
+named name words (lose_word c flags) false true here there is = absurd (gen_of-own words c flags is)
+named name words (generate seed count size) false true here there is =
+    let parts = gen_of-to words seed count size is in
+    let name_text = (bytes_eq-Decides name (codes "gen")).0 there in
     (cc, parts.1)
 
 pub command_of-to : (words : List (List ℕ)) (command : Command) → command_of words ≡ Some command → (words ≡ words_of command) × IsWithinLimits command
 command_of-to [] command is = absurd (cc)
-command_of-to (name ∷ words) command is = named name words command (bytes_eq name (codes "lose")) refl is
+command_of-to (name ∷ words) command is = named name words command (bytes_eq name (codes "lose")) (bytes_eq name (codes "gen")) refl refl is
 
 channel_of-decimal : (c : ChannelNumbers) → IsChannel c → channel_of (decimal c.w) (decimal c.b) (decimal c.n) (decimal c.t) ≡ Some c
 channel_of-decimal c is =
-    let w = number_of-decimal c.w (omega arith) in
-    let b = number_of-decimal c.b (omega arith) in
-    let n = number_of-decimal c.n (omega arith) in
-    let t = number_of-decimal c.t (omega arith) in
+    let w = number_to-decimal 4294967295 c.w (omega arith) (omega arith) in
+    let b = number_to-decimal 4294967295 c.b (omega arith) (omega arith) in
+    let n = number_to-decimal 4294967295 c.n (omega arith) (omega arith) in
+    let t = number_to-decimal 4294967295 c.t (omega arith) (omega arith) in
     let channel = is_channel-from c is in
     rw (w, b, n, t, channel) refl
 
 pub command_of-words_of : (command : Command) → IsWithinLimits command → command_of (words_of command) ≡ Some command
 command_of-words_of (lose_word c flags) within =
     rw (channel_of-decimal c within.0, flags_of-characters flags within.1) refl
+command_of-words_of (generate seed count size) within =
+    let seed_is = number_to-decimal 18446744073709551615 seed (omega arith) within.0 in
+    let count_is = number_to-decimal 3999960 count (omega arith) within.1 in
+    let size_is = number_to-decimal 1472 size (omega arith) within.3 in
+    let least : nat_le 12 size ≡ true = grind (arith, nat_tests, within.2) in
+    rw (seed_is, count_is, size_is, least) refl

@@ -8,11 +8,12 @@ use Rattle.sc_rtpdump.specs.declared.thin.DropFault.{DropFault}
 use Rattle.sc_rtpdump.specs.declared.thin.DropFault.TheVariants.{Dump, More, Fewer, Write}
 use Rattle.sc_rtpdump.specs.declared.thin.Dropped.{Dropped}
 use Rattle.streamcode.specs.declared.end.End.{End}
-use Rattle.streamcode.specs.declared.end.End.TheVariants.{Usage, LossRefused, Capture, MoreRecords, FewerRecords, Thinned, ReadFault, WriteFault, NoMemory}
+use Rattle.streamcode.specs.declared.end.End.TheVariants.{Generated, Usage, LossRefused, Capture, MoreRecords, FewerRecords, Thinned, ReadFault, WriteFault, NoMemory}
 
 -- the status with which the program ends
 abbrev pub status_of : End → ℕ
 status_of (Thinned dropped) = 0
+status_of (Generated records) = 0
 status_of (LossRefused window) = 1
 status_of Usage = 2
 status_of (Capture fault) = 3
@@ -34,6 +35,7 @@ fault_text Memory = codes "no memory"
 -- the text of an end
 abbrev pub text_of : End → List ℕ
 text_of (Thinned dropped) = codes "records " ++ decimal dropped.records ++ codes " lost " ++ decimal dropped.lost
+text_of (Generated records) = codes "records " ++ decimal records
 text_of (LossRefused window) = codes "loss refused at window " ++ decimal window
 text_of Usage = codes "usage"
 text_of (Capture fault) = fault_text fault

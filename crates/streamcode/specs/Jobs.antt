@@ -8,10 +8,11 @@ use Rattle.sc_outside.specs.Sink.{SinkTold}
 use Rattle.sc_channel.specs.Channel.{ChannelNumbers}
 use Rattle.sc_channel.specs.Loss.{bad_window}
 use Rattle.sc_rtpdump.specs.Thin.{thinning}
+use Rattle.sc_trial.specs.Generated.{generated}
 use Rattle.streamcode.specs.declared.end.End.{End}
-use Rattle.streamcode.specs.declared.end.End.TheVariants.{Usage, LossRefused, ReadFault, WriteFault, NoMemory}
+use Rattle.streamcode.specs.declared.end.End.TheVariants.{Generated, Usage, LossRefused, ReadFault, WriteFault, NoMemory}
 use Rattle.streamcode.specs.End.{status_of, note_of, IsTold, end_of_drop}
-use Rattle.streamcode.specs.Words.{Command, lose_word, command_of}
+use Rattle.streamcode.specs.Words.{Command, lose_word, generate, command_of}
 
 -- an end that the words decide alone, or the words and the files: nothing is read and nothing given. It may have taken
 -- memory to decide.
@@ -26,9 +27,15 @@ lose_by None flags = told_as (end_of_drop (length flags)) (thinning flags)
 abbrev pub lose_job : ChannelNumbers → List Bool → Job End
 lose_job channel flags = lose_by (bad_window channel flags) flags
 
+-- the generated capture is given, whatever the input is; memory runs out before any of it
+abbrev pub gen_job : ℕ → ℕ → ℕ → Job End
+gen_job seed count size =
+    at_once (record { answer = Generated count; text = generated seed count size; at_end = false }) true [] ReadFault WriteFault NoMemory
+
 abbrev pub command_job : Option Command → Job End
 command_job None = refusal false Usage
 command_job (Some (lose_word channel flags)) = lose_job channel flags
+command_job (Some (generate seed count size)) = gen_job seed count size
 
 -- the job of these words
 abbrev pub job_of : List (List ℕ) → Job End

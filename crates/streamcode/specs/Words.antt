@@ -14,10 +14,10 @@ begins_plain word = length word == 1 || nat_lt 48 (slice_index word 0)
 abbrev pub is_numeral : List ℕ → Bool
 is_numeral word = all_ascii_digits word && begins_plain word
 
--- the number below 2 ^ 32 that a word writes in decimal, without sign and without a leading zero
-unfoldable pub number_of : List ℕ → Option ℕ
-number_of word =
-    if is_numeral word && nat_lt (digits_value 10 word) (2 ^ 32) then Some (digits_value 10 word) else None
+-- the number of at most so much that a word writes in decimal, without sign and without a leading zero
+unfoldable pub number_to : ℕ → List ℕ → Option ℕ
+number_to most word =
+    if is_numeral word && nat_le (digits_value 10 word) most then Some (digits_value 10 word) else None
 
 -- the channel that four numbers are, where they are one
 abbrev pub channel_at : Option ℕ → Option ℕ → Option ℕ → Option ℕ → Option ChannelNumbers
@@ -28,7 +28,8 @@ channel_at _ _ _ _ = None
 
 -- the channel that four words write
 abbrev pub channel_of : List ℕ → List ℕ → List ℕ → List ℕ → Option ChannelNumbers
-channel_of w b n t = channel_at (number_of w) (number_of b) (number_of n) (number_of t)
+channel_of w b n t =
+    channel_at (number_to 4294967295 w) (number_to 4294967295 b) (number_to 4294967295 n) (number_to 4294967295 t)
 
 -- the character 0 (48) is a slot that arrives, and 1 (49) one that is lost
 abbrev pub is_flag : ℕ → Bool
@@ -48,6 +49,7 @@ flags_of word = if is_loss_word word then Some (map is_lost word) else None
 -- what a command line asks for, one constructor a command
 pub data Command : Type 0 where
   lose_word : ChannelNumbers → List Bool → Command
+  generate : ℕ → ℕ → ℕ → Command
 
 -- the command that a channel and flags ask for, where both are there
 abbrev pub lose_at : Option ChannelNumbers → Option (List Bool) → Option Command
@@ -59,10 +61,23 @@ abbrev pub lose_of : List (List ℕ) → Option Command
 lose_of (w ∷ b ∷ n ∷ t ∷ loss ∷ []) = lose_at (channel_of w b n t) (flags_of loss)
 lose_of _ = None
 
+-- the command that a seed, a count and a size of at least 12 ask for, where all are there
+abbrev pub gen_at : Option ℕ → Option ℕ → Option ℕ → Option Command
+gen_at (Some seed) (Some count) (Some size) = if nat_le 12 size then Some (generate seed count size) else None
+gen_at _ _ _ = None
+
+-- SEED COUNT SIZE
+abbrev pub gen_of : List (List ℕ) → Option Command
+gen_of (seed ∷ count ∷ size ∷ []) =
+    gen_at (number_to 18446744073709551615 seed) (number_to 3999960 count) (number_to 1472 size)
+gen_of _ = None
+
 -- the command whose form the words have: its name, then its words
 abbrev pub command_of : List (List ℕ) → Option Command
 command_of [] = None
-command_of (name ∷ words) = if bytes_eq name (codes "lose") then lose_of words else None
+command_of (name ∷ words) =
+    if bytes_eq name (codes "lose") then lose_of words
+    else (if bytes_eq name (codes "gen") then gen_of words else None)
 
 -- the bytes of each word
 abbrev pub texts : {A : Type 0} → List (String A) → List (List ℕ)

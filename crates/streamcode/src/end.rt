@@ -9,6 +9,8 @@ use sc_rtpdump::{DropFault, Dropped, DumpFault};
 pub enum End {
     /// The capture was thinned.
     Thinned(Dropped),
+    /// A capture of so many records was generated.
+    Generated(u32),
     /// The loss isn't admissible: this window of it is the first that isn't fine.
     LossRefused(usize),
     /// The words have no form.
@@ -34,7 +36,7 @@ impl End {
         ensures { result ≡ status_of self.now }
     {
         match self {
-            End::Thinned(_) => 0,
+            End::Thinned(_) | End::Generated(_) => 0,
             End::LossRefused(_) => 1,
             End::Usage => 2,
             End::Capture(_) | End::MoreRecords(_) | End::FewerRecords(_, _) => 3,

@@ -2,6 +2,7 @@
 #![tactic(auto)]
 
 mod end;
+mod generate;
 mod lose;
 mod lose_laws;
 mod note;

@@ -79,6 +79,7 @@ fn end_note(end: &End) -> Note
             .number(dropped.records.into())
             .word(" lost ")
             .number(dropped.lost.into()),
+        End::Generated(records) => Note::of("records ").number((*records).into()),
         End::LossRefused(window) => Note::of("loss refused at window ").number(*window as u64),
         End::Usage => Note::of("usage"),
         End::Capture(fault) => fault_note(fault),

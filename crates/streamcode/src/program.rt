@@ -7,6 +7,7 @@ ghost use Rattle.streamcode.specs.Jobs.{command_job, job_of, RunEnds, IsDueStatu
 ghost use Rattle.streamcode.specs.Words.{command_of, texts};
 
 use crate::end::End;
+use crate::generate::generate;
 use crate::lose::lose;
 use crate::note::conclude;
 use crate::words::{Command, read_words};
@@ -21,6 +22,7 @@ fn perform<P: Port>(alloc: Global, command: Command<'_>, port: &mut P) -> End
 {
     match command {
         Command::LoseWord { channel, flags } => lose(alloc, channel, flags, port),
+        Command::Gen { seed, count, size } => generate(alloc, seed, count, size, port),
     }
 }
 

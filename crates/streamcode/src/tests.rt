@@ -145,6 +145,8 @@ fn every_end_has_its_note(rt: HostRuntime) -> Result<(), Fail> {
     };
     for (end, status, note) in [
         (End::Thinned(done), 0, "records 4000000 lost 0\n"),
+        (End::Generated(0), 0, "records 0\n"),
+        (End::Generated(3_999_960), 0, "records 3999960\n"),
         (End::LossRefused(17), 1, "loss refused at window 17\n"),
         (End::Usage, 2, "usage\n"),
         (End::Capture(DumpFault::Preamble), 3, "preamble\n"),
@@ -206,6 +208,98 @@ fn faults_of_the_port_are_told(rt: HostRuntime) -> Result<(), Fail> {
         assert_eq!(rt; answer.note.as_slice(), note.as_bytes());
         assert!(rt; whole.as_slice().starts_with(answer.given.as_slice()));
         assert_eq!(rt; answer.given.len(), given, "{room} {fail}");
+    }
+    Ok(())
+}
+
+// Generated records, whose bytes a Python script drew: one of seed 42, and two of each of three seeds.
+const DRAWN_42: &[u8] =
+    b"\x00\x18\x00\x10\x00\x00\x00\x00\x80\x00\x00\x00\x00\x00\x00\x00\x12\x34\x56\x78\xb7\x09\x30\x93";
+
+const DRAWN_2: &[u8] =
+    b"\x00\x16\x00\x0e\x00\x00\x00\x00\x80\x00\x00\x00\x00\x00\x00\x00\x12\x34\x56\x78\xd4\x11\x00\x16\x00\x0e\x00\x00\x00\x14\x80\x00\x00\x01\x00\x00\x00\xa0\x12\x34\x56\x78\x54\x7b";
+
+const DRAWN_WIDE: &[u8] =
+    b"\x00\x16\x00\x0e\x00\x00\x00\x00\x80\x00\x00\x00\x00\x00\x00\x00\x12\x34\x56\x78\x79\xf7\x00\x16\x00\x0e\x00\x00\x00\x14\x80\x00\x00\x01\x00\x00\x00\xa0\x12\x34\x56\x78\x94\x7f";
+
+const DRAWN_WIDEST: &[u8] =
+    b"\x00\x16\x00\x0e\x00\x00\x00\x00\x80\x00\x00\x00\x00\x00\x00\x00\x12\x34\x56\x78\x77\x72\x00\x16\x00\x0e\x00\x00\x00\x14\x80\x00\x00\x01\x00\x00\x00\xa0\x12\x34\x56\x78\xba\x21";
+
+#[test]
+fn gen_generates_and_refuses(rt: HostRuntime) -> Result<(), Fail> {
+    let nothing: &[&[u8]] = &[];
+    let none: &[&[u8]] = &[PREAMBLE];
+    let first: &[&[u8]] = &[PREAMBLE, DRAWN_42];
+    let pair: &[&[u8]] = &[PREAMBLE, DRAWN_2];
+    let wide_pair: &[&[u8]] = &[PREAMBLE, DRAWN_WIDE];
+    let widest_pair: &[&[u8]] = &[PREAMBLE, DRAWN_WIDEST];
+    // The input isn't read.
+    let input: &[&[u8]] = &[SHORT];
+    for (line, status, given, note) in [
+        ("gen 42 1 16", 0, first, "records 1\n"),
+        ("gen 42 0 12", 0, none, "records 0\n"),
+        ("gen 2 2 14", 0, pair, "records 2\n"),
+        ("gen 4294967298 2 14", 0, wide_pair, "records 2\n"),
+        (
+            "gen 18446744073709551615 2 14",
+            0,
+            widest_pair,
+            "records 2\n",
+        ),
+        ("gen 18446744073709551616 2 14", 2, nothing, "usage\n"),
+        ("gen 42 1 11", 2, nothing, "usage\n"),
+        ("gen 042 1 16", 2, nothing, "usage\n"),
+    ] {
+        let answer = answer_of(rt.alloc(), line, input, 1000, 1000)?;
+        let given = joined(rt.alloc(), given)?;
+        assert_eq!(rt; answer.status, status, "{line}");
+        assert_eq!(rt; answer.given.as_slice(), given.as_slice(), "{line}");
+        assert_eq!(rt; answer.note.as_slice(), note.as_bytes(), "{line}");
+    }
+    Ok(())
+}
+
+#[test]
+fn gen_stops_at_a_failed_write(rt: HostRuntime) -> Result<(), Fail> {
+    let nothing: &[&[u8]] = &[];
+    let whole = joined(rt.alloc(), &[PREAMBLE, DRAWN_42])?;
+    // In pieces of 7 bytes, each call writes one.
+    for (room, fail, given) in [
+        (1000, 0, 0),
+        (1000, 3, 21),
+        (1000, 9, 63),
+        (50, 1000, 50),
+        (0, 1000, 0),
+    ] {
+        let answer = answer_of(rt.alloc(), "gen 42 1 16", nothing, room, fail)?;
+        assert_eq!(rt; answer.status, 8, "{room} {fail}");
+        assert_eq!(rt; answer.note.as_slice(), b"write fault\n".as_slice());
+        assert!(rt; whole.as_slice().starts_with(answer.given.as_slice()));
+        assert_eq!(rt; answer.given.len(), given, "{room} {fail}");
+    }
+    Ok(())
+}
+
+// The sequence number has 16 bits. What waits is written in blocks of at most 196,608 bytes.
+#[test]
+fn generates_many_records(rt: HostRuntime) -> Result<(), Fail> {
+    let last: &[u8] =
+        b"\x00\x14\x00\x0c\x00\x13\xff\xec\x80\x00\xff\xff\x00\x9f\xff\x60\x12\x34\x56\x78\x00\x14\x00\x0c\x00\x14\x00\x00\x80\x00\x00\x00\x00\xa0\x00\x00\x12\x34\x56\x78\x00\x14\x00\x0c\x00\x14\x00\x14\x80\x00\x00\x01\x00\xa0\x00\xa0\x12\x34\x56\x78";
+    let words = words_of(rt.alloc(), "gen 1 65538 12")?;
+    for (fail, status, given, note) in [
+        (1000, 0, 1_310_804, "records 65538\n"),
+        // Three pieces are the first block, of 44 bytes and 9,828 records.
+        (4, 8, 196_604 + 65_536, "write fault\n"),
+    ] {
+        let fails = vec![in rt.alloc(); fail]?;
+        let input = Vec::new(rt.alloc());
+        let mut port = MemoryPort::new(rt.alloc(), input, 2_000_000, 1000, 65_536, fails)?;
+        let mut notes = MemorySink::new(rt.alloc(), 128, Vec::new(rt.alloc()))?;
+        assert_eq!(rt; run(rt.alloc(), &words, &mut port, &mut notes), status);
+        assert_eq!(rt; port.given().len(), given);
+        assert!(rt; port.given().starts_with(PREAMBLE));
+        assert_eq!(rt; port.given().ends_with(last), status == 0);
+        assert_eq!(rt; notes.given(), note.as_bytes());
     }
     Ok(())
 }

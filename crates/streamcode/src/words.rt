@@ -1,12 +1,13 @@
 //! The words of the command line.
 
-ghost use Rattle.std.specs.Prelude.{◌≡◌, true, Some, IfOk, IfSome, map};
+ghost use Rattle.std.specs.Prelude.{◌≡◌, ◌≤◌, true, Some, IfOk, IfSome, map};
 ghost use Rattle.std.specs.Option.{option_map};
-ghost use Rattle.streamcode.specs.Words.{number_of, begins_plain, channel_of, is_lost, flags_of, is_loss_word, lose_of, command_of, texts};
+ghost use Rattle.streamcode.specs.Words.{number_to, begins_plain, channel_of, is_lost, flags_of, is_loss_word, lose_of, gen_of, command_of, texts};
 ghost use Rattle.streamcode.specs.Command.{meaning, HasItsForms};
 
 use sc_channel::{Channel, Flags, MAX_FLAGS};
 use sc_outside::NoMemory;
+use sc_trial::{MAX_COUNT, MAX_SIZE, MIN_SIZE};
 use std::alloc::Global;
 
 /// What a command line asks for. The forms of the words are of this project.
@@ -19,20 +20,30 @@ pub enum Command<'a> {
         /// The loss word: 0 to 4,000,000 characters, one a record, `1` where it is lost, else `0`.
         flags: &'a str,
     },
+    /// `gen SEED COUNT SIZE`: write a generated capture.
+    Gen {
+        /// The number from which the packets' bytes are drawn.
+        seed: u64,
+        /// How many records: 0 to 3,999,960.
+        count: u32,
+        /// The size of each packet in bytes: 12 to 1,472.
+        size: u16,
+    },
 }
 
 /// The command whose form the words have, the command's name first, and `None` exactly where they
 /// have no form. It takes no memory.
 ///
-/// The one form is `lose W B N T LOSSWORD`. The four numbers are decimal, without sign and without a
-/// leading zero, and a channel; the loss word is 0 to 4,000,000 characters `0` and `1`. The forms are
-/// of this project.
+/// The forms are `lose W B N T LOSSWORD` and `gen SEED COUNT SIZE`. Numbers are decimal, without sign and without a
+/// leading zero. W, B, N and T are a channel; the loss word is 0 to 4,000,000 characters `0` and `1`. The seed has at most
+/// 64 bits, the count is at most 3,999,960, and the size 12 to 1,472. The forms are of this project.
 pub fn read_words(words: &Vec<String>) -> Option<Command<'_>>
     ensures command { command_of (texts words.now.items) ≡ option_map meaning result }
     ensures forms { IfSome result HasItsForms }
 {
     match words.as_slice() {
         [name, rest @ ..] if name.as_str() == "lose" => read_lose(rest),
+        [name, rest @ ..] if name.as_str() == "gen" => read_gen(rest),
         _ => None,
     }
 }
@@ -61,24 +72,45 @@ fn read_lose(words: &[String]) -> Option<Command<'_>>
 fn read_channel(w: &str, b: &str, n: &str, t: &str) -> Option<Channel>
     ensures { result ≡ channel_of w.now b.now n.now t.now }
 {
-    let w = number_word(w)?;
-    let b = number_word(b)?;
-    let n = number_word(n)?;
-    let t = number_word(t)?;
+    let most = u64::from(u32::MAX);
+    let w = number_word(w, most)? as u32;
+    let b = number_word(b, most)? as u32;
+    let n = number_word(n, most)? as u32;
+    let t = number_word(t, most)? as u32;
     Channel::new(w, b, n, t).ok()
 }
 
-/// The number that a word writes in decimal, without sign and without a leading zero.
-#[tactic(auto, using(crate::proofs::Numbers::number_from_parse, crate::proofs::Numbers::number_none))]
-fn number_word(word: &str) -> Option<u32>
-    ensures { result ≡ number_of word.now }
+/// The words after `gen`.
+fn read_gen(words: &[String]) -> Option<Command<'_>>
+    ensures command { gen_of (texts words.now) ≡ option_map meaning result }
+    ensures forms { IfSome result HasItsForms }
+{
+    match words {
+        [seed, count, size] => {
+            let seed = number_word(seed.as_str(), u64::MAX)?;
+            let count = number_word(count.as_str(), MAX_COUNT.into())? as u32;
+            let size = number_word(size.as_str(), MAX_SIZE.into())? as u16;
+            if MIN_SIZE <= size {
+                Some(Command::Gen { seed, count, size })
+            } else {
+                None
+            }
+        }
+        _ => None,
+    }
+}
+
+/// The number of at most so much that a word writes in decimal, without sign and without a leading zero.
+fn number_word(word: &str, most: u64) -> Option<u64>
+    ensures number { result ≡ number_to most word.now }
+    ensures bound { IfSome result (λ number. number ≤ most) }
 {
     // `parse` takes a plus sign and leading zeros too.
-    if begins_plain(word) {
-        word.parse::<u32>().ok()
-    } else {
-        None
+    if !begins_plain(word) {
+        return None;
     }
+    let number = word.parse::<u64>().ok()?;
+    if number <= most { Some(number) } else { None }
 }
 
 /// Whether a word has one character, or begins with one above `0`: with no sign and no leading zero.
@@ -143,6 +175,7 @@ mod tests {
                     let read = (channel.w(), channel.b(), channel.n(), channel.t());
                     read == numbers && want == Some(flags)
                 }
+                _ => false,
             },
             None => want.is_none(),
         })
@@ -171,21 +204,72 @@ mod tests {
         Ok(())
     }
 
+    /// Whether the words of a line are `gen` with these numbers, or, where it is `None`, no form.
+    fn generates_as(
+        alloc: Global,
+        line: &str,
+        want: Option<(u64, u32, u16)>,
+    ) -> Result<bool, AllocError> {
+        let words = words_of(alloc, line)?;
+        Ok(match read_words(&words) {
+            Some(command) => match command {
+                Command::Gen { seed, count, size } => want == Some((seed, count, size)),
+                _ => false,
+            },
+            None => want.is_none(),
+        })
+    }
+
+    #[test]
+    fn reads_the_forms_of_gen(rt: HostRuntime) -> Result<(), Fail> {
+        let most = 18_446_744_073_709_551_615;
+        for (line, want) in [
+            ("gen 42 1 16", Some((42, 1, 16))),
+            ("gen 0 0 12", Some((0, 0, 12))),
+            ("gen 4294967296 1 12", Some((4_294_967_296, 1, 12))),
+            (
+                "gen 18446744073709551615 3999960 1472",
+                Some((most, 3_999_960, 1472)),
+            ),
+            ("gen 18446744073709551616 1 12", None),
+            ("gen 100000000000000000000 1 12", None),
+            ("gen 42 3999961 12", None),
+            ("gen 42 1 11", None),
+            ("gen 42 1 1473", None),
+            ("gen 042 1 16", None),
+            ("gen 42 01 16", None),
+            ("gen 42 1 016", None),
+            ("gen +42 1 16", None),
+            ("gen -1 1 16", None),
+            ("gen  1 16", None),
+            ("gen 42 1", None),
+            ("gen 42 1 16 0", None),
+            ("Gen 42 1 16", None),
+        ] {
+            assert!(rt; generates_as(rt.alloc(), line, want)?, "at {line}");
+        }
+        Ok(())
+    }
+
     #[test]
     fn reads_numbers(rt: HostRuntime) {
-        for (word, want) in [
-            ("0", Some(0)),
-            ("10", Some(10)),
-            ("4294967295", Some(4_294_967_295)),
-            ("4294967296", None),
-            ("00", None),
-            ("+1", None),
-            ("-1", None),
-            ("-", None),
-            ("1a", None),
-            ("", None),
+        for (word, most, want) in [
+            ("0", 0, Some(0)),
+            ("1", 0, None),
+            ("10", 10, Some(10)),
+            ("11", 10, None),
+            ("4294967295", 4_294_967_295, Some(4_294_967_295)),
+            ("4294967296", 4_294_967_295, None),
+            ("18446744073709551615", u64::MAX, Some(u64::MAX)),
+            ("18446744073709551616", u64::MAX, None),
+            ("00", 10, None),
+            ("+1", 10, None),
+            ("-1", 10, None),
+            ("-", 10, None),
+            ("1a", 10, None),
+            ("", 10, None),
         ] {
-            assert_eq!(rt; number_word(word), want, "at {word}");
+            assert_eq!(rt; number_word(word, most), want, "at {word}");
         }
     }
 

@@ -1,0 +1,9 @@
+-- The laws that crates above want, each in the file named.
+--
+--   GeneratedLaws  the generated capture is a capture of so many RTP records: generated-capture, generated-count,
+--                  generated-kind
+--
+-- DrawSteps and RecordSteps say how this crate's own calls keep up with its definitions.
+pub mod DrawSteps
+pub mod GeneratedLaws
+pub mod RecordSteps

@@ -1,0 +1,3 @@
+pub mod Draw
+pub mod Generated
+pub mod GeneratedLaws

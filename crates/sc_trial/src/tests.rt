@@ -1,0 +1,83 @@
+//! Worked captures, whose bytes a Python script drew, and each public call once.
+
+use super::*;
+use sc_outside::{MemoryPort, NoMemory};
+use sc_rtpdump::{DumpRecord, Kind, kind_of, next_record, read_preamble};
+use std::alloc::Global;
+use std::test::Fail;
+
+// The standard preamble.
+const PREAMBLE: &[u8] =
+    b"#!rtpplay1.0 127.0.0.1/5004\n\x00\x00\x00\x00\x00\x00\x00\x00\x7f\x00\x00\x01\x13\x8c\x00\x00";
+
+// A port with this input, and room for so many bytes in pieces of so many, where one call fails.
+fn port_of(alloc: Global, input: Vec<u8>, room: usize, fail: u32) -> Result<MemoryPort, NoMemory> {
+    let fails = vec![in alloc; fail]?;
+    MemoryPort::new(alloc, input, room, 10_000, 65_536, fails)
+}
+
+#[test]
+fn generates_captures(rt: HostRuntime) -> Result<(), Fail> {
+    for (seed, count, size, len, last) in [
+        (42, 1, 16, 68, b"\x12\x34\x56\x78\xb7\x09\x30\x93"),
+        (42, 0, 12, 44, b"\x7f\x00\x00\x01\x13\x8c\x00\x00"),
+        (2, 2, 14, 88, b"\x00\xa0\x12\x34\x56\x78\x54\x7b"),
+        (
+            4_294_967_298,
+            2,
+            14,
+            88,
+            b"\x00\xa0\x12\x34\x56\x78\x94\x7f",
+        ),
+    ] {
+        let mut port = port_of(rt.alloc(), Vec::new(rt.alloc()), 1000, 10_000)?;
+        assert!(rt; gen_capture(rt.alloc(), seed, count, size, &mut port).is_ok());
+        assert!(rt; port.given().starts_with(PREAMBLE));
+        assert_eq!(rt; port.given().len(), len);
+        assert!(rt; port.given().ends_with(last), "{seed} {count} {size}");
+    }
+    Ok(())
+}
+
+// What was generated is read back: records of RTP packets, drawn to the last. Many go by one write.
+#[test]
+fn generates_many_records(rt: HostRuntime) -> Result<(), Fail> {
+    let mut port = port_of(rt.alloc(), Vec::new(rt.alloc()), 1_000_000, 10_000)?;
+    assert_eq!(rt; gen_capture(rt.alloc(), 7, 3000, 172, &mut port), Ok(()));
+    assert_eq!(rt; port.given().len(), 540_044);
+    assert_eq!(rt; port.journal().len(), 9);
+    assert!(rt; port.given().ends_with(b"\x14\x24\xff\xbe\x58\xc6\x29\x3c"));
+
+    let bytes = port.given().to_vec(rt.alloc())?;
+    let mut port = port_of(rt.alloc(), bytes, 0, 10_000)?;
+    let mut record = DumpRecord::start(rt.alloc())?;
+    assert!(rt; read_preamble(rt.alloc(), &mut port).is_ok());
+    for i in 0..3000 {
+        assert_eq!(rt; next_record(&mut port, i, &mut record), Ok(true));
+        assert_eq!(rt; record.offset(), 20 * i);
+        assert_eq!(rt; kind_of(&record), Kind::Rtp);
+    }
+    assert_eq!(rt; next_record(&mut port, 3000, &mut record), Ok(false));
+    generated_is_a_capture();
+    Ok(())
+}
+
+// A write fails in the second of three blocks.
+#[test]
+fn stops_at_a_failed_write(rt: HostRuntime) -> Result<(), Fail> {
+    let mut port = port_of(rt.alloc(), Vec::new(rt.alloc()), 1_000_000, 4)?;
+    let fault = GenFault::Write;
+    assert_eq!(rt;
+        gen_capture(rt.alloc(), 7, 3000, 172, &mut port),
+        Err(fault)
+    );
+    assert_eq!(rt; port.given().len(), 196_604 + 65_536);
+    for (fault, text) in [
+        (GenFault::Write, "write fault"),
+        (GenFault::Memory, "no memory"),
+    ] {
+        let printed = format!(in rt.alloc(); "{fault}")?;
+        assert_eq!(rt; printed.as_str(), text);
+    }
+    Ok(())
+}
