@@ -12,6 +12,7 @@ pub mod StorageLaws
 pub mod StoredSteps
 pub mod AddWork
 pub mod StoredForget
+pub mod Touched
 pub mod NumberRows
 pub mod StoredStart
 pub mod KernelLaws

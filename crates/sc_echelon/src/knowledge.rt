@@ -4,6 +4,7 @@ ghost use Rattle.sc_echelon.specs.Knowledge.{IsSolution, Follows, Contradicts, A
 
 use crate::equation::Equation;
 use crate::table::{add_work, blank_rows, forget_rows};
+use crate::tables::Tables;
 use sc_field::Field;
 use sc_outside::NoMemory;
 use std::alloc::Global;
@@ -36,6 +37,7 @@ pub struct Knowledge<F: Field> {
     used: Vec<bool>,
     rows: Vec<Equation<F>>,
     work: Equation<F>,
+    tables: Tables<F>,
 }
 
 impl<F: Field> Model for Knowledge<F> {
@@ -66,11 +68,13 @@ impl<F: Field> Knowledge<F> {
         let used = vec![in alloc; false; cols]?;
         let rows = blank_rows(alloc, cols, width)?;
         let work = Equation::zeros(alloc, cols, width)?;
+        let tables = Tables::none(alloc)?;
         Ok(Knowledge {
             width,
             used,
             rows,
             work,
+            tables,
         })
     }
 
@@ -120,6 +124,7 @@ impl<F: Field> Knowledge<F> {
             self.used.as_mut_slice(),
             &mut self.work,
             width,
+            &mut self.tables,
         )
     }
 

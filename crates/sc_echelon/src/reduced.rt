@@ -7,6 +7,7 @@ ghost use Rattle.sc_echelon.specs.Kernel.{IsKernelVector, IsFree, IsRank, IsNonz
 
 use crate::equation::Equation;
 use crate::table::{blank_rows, clear_at_pivots, insert_row};
+use crate::tables::Tables;
 use sc_field::Field;
 use sc_matrix::Matrix;
 use sc_outside::NoMemory;
@@ -49,7 +50,14 @@ impl<F: Field> Reduced<F> {
         let mut used = vec![in alloc; false; cols]?;
         let mut rows = blank_rows(alloc, cols, 0)?;
         let mut work = Equation::zeros(alloc, cols, 0)?;
-        reduce_rows(rows.as_mut_slice(), used.as_mut_slice(), &mut work, m);
+        let mut tables = Tables::none(alloc)?;
+        reduce_rows(
+            rows.as_mut_slice(),
+            used.as_mut_slice(),
+            &mut work,
+            m,
+            &mut tables,
+        );
         Ok(Reduced { used, rows })
     }
 
@@ -172,6 +180,7 @@ fn reduce_rows<F: Field>(
     used: &mut [bool],
     work: &mut Equation<F>,
     m: &Matrix<F>,
+    tables: &mut Tables<F>,
 )
     requires stored { IsEchelonStored F.IsElement F.zero F.one used.old rows.old }
     requires start { HasKernelOf F.IsElement F.zero F.add F.mul (length used.old) (coeffs_of (table_of used.old rows.old)) [] }
@@ -184,12 +193,17 @@ fn reduce_rows<F: Field>(
 {
     for i in 0..m.rows() {
         work.load_numbers(m.row(i));
-        take_in(rows, used, work);
+        take_in(rows, used, work, tables);
     }
 }
 
 // Takes in the row of coefficients in the work row.
-fn take_in<F: Field>(rows: &mut [Equation<F>], used: &mut [bool], work: &mut Equation<F>)
+fn take_in<F: Field>(
+    rows: &mut [Equation<F>],
+    used: &mut [bool],
+    work: &mut Equation<F>,
+    tables: &mut Tables<F>,
+)
     requires stored { IsEchelonStored F.IsElement F.zero F.one used.old rows.old }
     requires width { length work.old.coeffs ≡ length used.old }
     requires right { length work.old.right ≡ 0 }
@@ -201,9 +215,9 @@ fn take_in<F: Field>(rows: &mut [Equation<F>], used: &mut [bool], work: &mut Equ
     ensures kernel { (rs : List (List F)) → HasKernelOf F.IsElement F.zero F.add F.mul (length used.old) (coeffs_of (table_of used.old rows.old)) rs
         → HasKernelOf F.IsElement F.zero F.add F.mul (length used.new) (coeffs_of (table_of used.new rows.new)) (rs ++ work.old.coeffs ∷ []) }
 {
-    clear_at_pivots(work, used, rows);
+    clear_at_pivots(work, used, rows, tables);
     match work.last_nonzero() {
-        Some(p) => insert_row(rows, used, work, p),
+        Some(p) => insert_row(rows, used, work, p, tables),
         None => {}
     }
 }
