@@ -16,7 +16,6 @@ pub mod Touched
 pub mod NumberRows
 pub mod StoredStart
 pub mod KernelLaws
-pub mod KernelUnique
 pub mod ReducedSteps
 pub mod ReducedLaws
 pub mod StoredReduced

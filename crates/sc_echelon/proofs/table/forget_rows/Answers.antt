@@ -6,9 +6,8 @@ use Rattle.sc_echelon.specs.Kept.{known_by, IsKept}
 use Rattle.sc_echelon.specs.Storage.{table_of}
 use Rattle.sc_echelon.specs.Knowledge.{Forgets}
 use Rattle.sc_echelon.specs.Ring.{rotate}
-use Rattle.sc_echelon.proofs.Ring.{length-rotate}
+use Rattle.sc_echelon.proofs.Ring.{length-rotate, All-rotate}
 use Rattle.sc_echelon.proofs.StoredForget.{forget_stored, flags_after}
-use Rattle.sc_echelon.proofs.NumberRows.{All-rotate}
 use Rattle.sc_echelon.proofs.KnowledgeLaws.{forgets, kept_forget}
 use Rattle.sc_echelon.proofs.table.forget_rows.Goals as goal
 

@@ -2,9 +2,9 @@ use Rattle.std.proofs.Common.{map, ◌∙◌, ap, arith}
 use Rattle.std.proofs.lemmas.List.{with_items_is}
 use Rattle.sc_field.specs.Field.{IsNumber}
 use Rattle.sc_echelon.specs.Ring.{rotate}
-use Rattle.sc_echelon.proofs.Ring.{length-rotate}
+use Rattle.sc_echelon.proofs.Ring.{length-rotate, map-rotate, All-rotate}
 use Rattle.sc_echelon.proofs.Touched.{IsTouchedRow-same, IsTouched-any, IsTouched-turned}
-use Rattle.sc_echelon.proofs.NumberRows.{map-rotate, All-rotate, size_of, same_row}
+use Rattle.sc_echelon.proofs.NumberRows.{size_of, same_row}
 use Rattle.sc_echelon.proofs.equation.Equation.turn.Goals as goal
 
 pub invariant_of-self : goal.invariant_of-self
