@@ -9,7 +9,7 @@ ghost use Rattle.sc_echelon.specs.Echelon.{IsLastNonzero};
 ghost use Rattle.sc_echelon.specs.Touched.{IsTouched};
 
 use crate::tables::Tables;
-use sc_field::{Field, Multiplier, element_of, scale_add};
+use sc_field::{Field, Multiplier, element_of};
 use sc_outside::NoMemory;
 use std::alloc::Global;
 use std::marker::{Model, PhantomData};
@@ -240,16 +240,35 @@ fn add_both<F: Field>(
     ensures first { first.new ≡ scaled_sum (F.act c) first.old one.now }
     ensures second { second.new ≡ scaled_sum (F.act c) second.old other.now }
 {
-    c.known();
-    if c.number() < 2 {
-        // These need no tables.
-        scale_add(&mut first[from..end], c, &one[from..end]);
-        scale_add(second, c, other);
-    } else {
-        let by = tables.multiplier(c);
-        by.scale_add(&mut first[from..end], &one[from..end]);
-        by.scale_add(second, other);
+    match tables.find(c) {
+        Some(by) => add_by(by, first, one, from, end, second, other),
+        None => {
+            let by = Multiplier::new(c);
+            add_by(&by, first, one, from, end, second, other);
+            tables.keep(by);
+        }
     }
+}
+
+// The same, by a multiplier.
+fn add_by<F: Field>(
+    by: &Multiplier<F>,
+    first: &mut [u8],
+    one: &[u8],
+    from: usize,
+    end: usize,
+    second: &mut [u8],
+    other: &[u8],
+)
+    requires first { length one.now ≡ length first.old }
+    requires second { length other.now ≡ length second.old }
+    requires touched { IsTouched from end one.now }
+    ensures first { first.new ≡ scaled_sum (F.act by.now.coefficient) first.old one.now }
+    ensures second { second.new ≡ scaled_sum (F.act by.now.coefficient) second.old other.now }
+{
+    by.coefficient.known();
+    by.scale_add(&mut first[from..end], &one[from..end]);
+    by.scale_add(second, other);
 }
 
 // Multiplies bytes that are zero but for those from `from` up to `end`.

@@ -1,12 +1,11 @@
 //! Multipliers that were made once and are used again.
-ghost use Rattle.std.specs.Prelude.{◌≡◌};
+ghost use Rattle.std.specs.Prelude.{◌≡◌, ⊤, MatchOption};
 
 use sc_field::{Field, Multiplier};
 use sc_outside::NoMemory;
 use std::alloc::Global;
 
-// The multiplier of each coefficient that was asked for before, at its number. To make one costs about as much as to add
-// a row of a few hundred bytes.
+// Multipliers that were kept, each at the number of its coefficient.
 #[derive(Drop)]
 pub(crate) struct Tables<F: Field> {
     made: Vec<Multiplier<F>>,
@@ -19,22 +18,25 @@ impl<F: Field> Tables<F> {
         Ok(Tables { made })
     }
 
-    // The multiplier of `c`.
-    pub(crate) fn multiplier(&mut self, c: F) -> Multiplier<F>
-        ensures { result.coefficient ≡ c }
+    // The multiplier of `c`, if it was kept.
+    pub(crate) fn find(&self, c: F) -> Option<&Multiplier<F>>
+        ensures { MatchOption result ⊤ (λ by. by.now.coefficient ≡ c) }
     {
         c.known();
         let place = c.number() as usize;
         if place >= self.made.len() {
-            return Multiplier::new(c);
+            return None;
         }
-        let kept = self.made[place];
-        kept.coefficient.known();
-        if kept.coefficient == c {
-            return kept;
+        let by = &self.made[place];
+        by.coefficient.known();
+        if by.coefficient == c { Some(by) } else { None }
+    }
+
+    // Keeps the multiplier for the next time.
+    pub(crate) fn keep(&mut self, by: Multiplier<F>) {
+        let place = by.coefficient.number() as usize;
+        if place < self.made.len() {
+            self.made[place] = by;
         }
-        let by = Multiplier::new(c);
-        self.made[place] = by;
-        by
     }
 }
