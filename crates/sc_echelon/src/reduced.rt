@@ -40,7 +40,8 @@ impl<F: Field> Model for Reduced<F> {
 impl<F: Field> Reduced<F> {
     /// A reduced form of `m`, which has the same kernel. Pivots are taken from the last column first.
     ///
-    /// It costs a pass over `cols` coefficients for each row of `m` and each pivot that the row touches.
+    /// It costs a pass over at most `cols` coefficients for each row of `m` and each pivot that the row touches, and keeps
+    /// room for `cols` rows of `cols` coefficients.
     pub fn of(alloc: Global, m: &Matrix<F>) -> Result<Reduced<F>, NoMemory>
         ensures cols { IfOk result (λ r. r.cols ≡ m.now.cols) }
         ensures kernel { IfOk result (λ r. (v : List F) → IsKernelVector F.IsElement F.zero F.add F.mul r.cols r.rows v
