@@ -164,9 +164,6 @@ module _ {A V : Type 0} {IsElement : A → Type 0} {zero one : A} {add sub mul :
       }
 
       module _ (s : SolvesTable none plus times (forget zero count t) vs) where
-        completed : List V
-        completed = settle laws ml t (replicate count none ++ back)
-
         completed_values : IsVector IsValue n (settle laws ml t (replicate count none ++ back))
         completed_values = settle_values laws ml n t form (replicate count none ++ back) joined_values
 

@@ -12,10 +12,10 @@ pub mod StorageLaws
 pub mod StoredSteps
 pub mod AddWork
 pub mod StoredForget
+pub mod Touched
 pub mod NumberRows
 pub mod StoredStart
 pub mod KernelLaws
-pub mod KernelUnique
 pub mod ReducedSteps
 pub mod ReducedLaws
 pub mod StoredReduced

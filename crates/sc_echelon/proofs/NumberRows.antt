@@ -1,7 +1,7 @@
 -- Coefficients kept as their numbers: what is read of the numbers holds of the elements.
 use Rattle.std.proofs.Common.{◌≡◌, ◌≢◌, ◌↔◌, ℕ, ◌+◌, ◌<◌, List, [], ◌∷◌, ◌++◌, bit_xor, All, Option, None, Some, inl, inr, MatchOption, length, get_or, set, map, take, drop, sym, ◌∙◌, ap, ap₂, append_assoc, subst, arith}
-use Rattle.std.proofs.lemmas.List.{get_or_past, length-map, length-take-le, get_or-map, set_at, drop_more, take_more, map-append, take-map, drop-map, map-id}
-use Rattle.std.proofs.lemmas.List.Elements.{All-append, All-take, All-drop, All-map}
+use Rattle.std.proofs.lemmas.List.{get_or_past, length-map, length-take-le, get_or-map, set_at, drop_more, take_more, map-append, map-id}
+use Rattle.std.proofs.lemmas.List.Elements.{All-map}
 use Rattle.sc_field.specs.Field.{IsField, IsAction, IsNumbered, IsNumber}
 use Rattle.sc_field.specs.Scale.{scaled_sum}
 use Rattle.sc_field.specs.ActionLemmas.{is_number}
@@ -12,7 +12,6 @@ use Rattle.sc_matrix.proofs.NumberLaws.{number_module, elements-add, elements-ti
 use Rattle.sc_echelon.specs.Equation.{Row}
 use Rattle.std.proofs.lemmas.Bool.{cases_lt}
 use Rattle.sc_echelon.specs.Echelon.{IsLastNonzero}
-use Rattle.sc_echelon.specs.Ring.{rotate}
 
 module _ {A : Type 0} {IsElement : A → Type 0} {zero one : A} {add sub mul : A → A → A} {inv : A → A} {act : A → ℕ → ℕ} {number : A → ℕ} {element : ℕ → A} (laws : IsField IsElement zero one add sub mul inv) (action : IsAction IsElement zero one add mul act) (numbered : IsNumbered IsElement zero one number element) (by_number : (x : A) → IsElement x → act x 1 ≡ number x) where
   abbrev Number : ℕ → Type 0
@@ -92,13 +91,6 @@ module _ {A : Type 0} {IsElement : A → Type 0} {zero one : A} {add sub mul : A
 
   pub elements_scaled : (us : List ℕ) (c : A) → IsElement c → All Number us → map element (map (act c) us) ≡ scale_vector mul c (map element us)
   elements_scaled us c hc hu = elements-times laws action numbered by_number c us hc (vector_of us hu)
-
--- ---- a list is turned
-pub map-rotate : {X Y : Type 0} (f : X → Y) (k : ℕ) (xs : List X) → map f (rotate k xs) ≡ rotate k (map f xs)
-map-rotate f k xs = map-append f (drop k xs) (take k xs) ∙ ap (λ ys. ys ++ map f (take k xs)) (sym (drop-map f k xs)) ∙ ap (λ ys. drop k (map f xs) ++ ys) (sym (take-map f k xs))
-
-pub All-rotate : {X : Type 0} (P : X → Type 0) (k : ℕ) (xs : List X) → All P xs → All P (rotate k xs)
-All-rotate P k xs h = All-append P (drop k xs) (take k xs) (All-drop P k xs h) (All-take P k xs h)
 
 -- ---- one place more is written
 pub write_more : {X Y : Type 0} (f : X → Y) (xs : List X) (old bs : List Y) (i : ℕ) (x : X) (d : Y) → i < length xs → length old ≡ length xs → bs ≡ map f (take i xs) ++ drop i old → x ≡ get_or xs i x

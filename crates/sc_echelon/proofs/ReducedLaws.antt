@@ -1,6 +1,5 @@
 -- The answers that are read off a table of coefficients are exact for the kernel of the rows that it was built from.
 use Rattle.std.proofs.Common.{◌≡◌, ◌≢◌, ◌↔◌, ◌⊎◌, ℕ, zero as naught, suc, ◌<◌, ◌≤◌, List, [], ◌∷◌, length, get_or, All, Option, None, Some, inl, inr, refl, sym, ◌∙◌, ap, subst, arith}
-use Rattle.std.proofs.lemmas.List.{length-map}
 use Rattle.sc_field.specs.Field.{IsField, IsNumbered}
 use Rattle.sc_matrix.specs.Matrix.{Matrix, IsInKernel}
 use Rattle.sc_matrix.proofs.RowSpaceLaws.{kernel_rows}
@@ -9,7 +8,7 @@ use Rattle.sc_echelon.specs.Equation.{Row}
 use Rattle.sc_echelon.specs.Table.{slot, rows_of}
 use Rattle.sc_echelon.specs.Kernel.{IsKernelVector, IsFree, CountsTo, IsRank, IsNonzeroBelow, IsLeastBelow}
 use Rattle.sc_echelon.proofs.KernelLaws.{InKernel, filled_below, filled_all, IsLastFree, leading, leading_is, leading_is_least, none_below, free_exact, rank_exact}
-use Rattle.sc_echelon.specs.Echelon.{homogeneous, with_zero, IsEchelon, HasKernelOf}
+use Rattle.sc_echelon.specs.Echelon.{homogeneous, IsEchelon, HasKernelOf}
 use Rattle.sc_echelon.proofs.ReducedSteps.{slot_row, slot_none, slot_none_back, right_sides}
 
 -- ---- what is said of a set of vectors doesn't depend on how the set is told
@@ -60,9 +59,6 @@ module _ {A : Type 0} {IsElement : A → Type 0} {zero one : A} {add sub mul : A
 
     back : (v : List A) → K v ↔ InKernel laws n (homogeneous zero s) v
     back v = ((same v).1, (same v).0)
-
-    length_table : length s ≡ n
-    length_table = sym (length-map s (with_zero zero)) ∙ form.reduced.count
 
     -- ---- a column is free exactly where it is no pivot
     pub is_free_exact : (col : ℕ) → col < n → IsFree zero K col ↔ (slot s col ≡ None)

@@ -34,9 +34,6 @@ module _ {A V : Type 0} {IsElement : A → Type 0} {zero one : A} {add sub mul :
   settle t f = add_vectors plus f (map (correction f) t)
 
   module _ (n : ℕ) (t : List (Option (Row A V))) (form : IsReduced IsElement zero one IsValue n t) (f : List V) (hf : IsVector IsValue n f) where
-    corrections : List V
-    corrections = map (correction f) t
-
     length-corrections : length (map (correction f) t) ≡ n
     length-corrections = length-map t (correction f) ∙ form.count
 

@@ -45,13 +45,6 @@ module _ {X : Type 0} where
   table_of-off (suc k) [] e = absurd (omega arith)
   table_of-off (suc k) (x ∷ xs) e = ap (λ (t : List (Option X)). None ∷ t) (table_of-off k xs (omega arith))
 
--- every row in use is changed in the same way, and no flag
-pub table_of-map : {X Y : Type 0} (f : X → Y) (g : Option X → Option Y) → ((x : X) → g (Some x) ≡ Some (f x)) → g None ≡ None → (bs : List Bool) (xs : List X) → table_of bs (map f xs) ≡ map g (table_of bs xs)
-table_of-map f g s n [] xs = refl
-table_of-map f g s n (b ∷ bs) [] = refl
-table_of-map f g s n (true ∷ bs) (x ∷ xs) = ap₂ (λ y ys. y ∷ ys) (sym (s x)) (table_of-map f g s n bs xs)
-table_of-map f g s n (false ∷ bs) (x ∷ xs) = ap₂ (λ y ys. y ∷ ys) (sym n) (table_of-map f g s n bs xs)
-
 module _ {X : Type 0} (g : Option X → Option X) (bs : List Bool) (old : List X) where
   pub changed_first : ChangedBelow g bs old 0 old
   changed_first = record { count = refl; done = λ i d l. absurd (omega arith); left = λ i d l m. refl }

@@ -1,22 +1,23 @@
 -- A system's coefficients are kept in reduced form where rows and flags are stored side by side.
-use Rattle.std.proofs.Common.{◌≡◌, ◌≢◌, ◌↔◌, ℕ, zero as naught, suc, ◌+◌, ◌<◌, ◌≤◌, List, [], ◌∷◌, ◌++◌, length, get_or, map, set, replicate, All, Bool, true, false, Option, None, Some, inl, inr, refl, sym, ◌∙◌, ap, subst, arith}
+use Rattle.std.proofs.Common.{◌≡◌, ◌≢◌, ◌↔◌, ℕ, zero as naught, suc, ◌+◌, ◌<◌, ◌≤◌, ◌⊎◌, min, List, [], ◌∷◌, ◌++◌, length, get_or, map, set, replicate, All, Bool, true, false, Option, None, Some, inl, inr, refl, sym, ◌∙◌, ap, subst, arith}
 use Rattle.std.proofs.lemmas.List.{length-map, length-replicate, get_or-map, get_or_past, map-set}
 use Rattle.std.proofs.lemmas.List.Elements.{All-nil, All-cons, All-head, All-tail}
-use Rattle.std.proofs.lemmas.Bool.{cases_lt}
-use Rattle.sc_field.specs.Field.{IsField}
+use Rattle.std.proofs.lemmas.Bool.{cases_lt, cases_Bool}
+use Rattle.sc_field.specs.Field.{IsField, IsNumbered}
 use Rattle.sc_matrix.proofs.MatrixLaws.{map-replicate}
 use Rattle.sc_matrix.specs.Vector.{IsVector, dot, scale_vector}
 use Rattle.sc_echelon.specs.Equation.{Row, Meets, Solves}
-use Rattle.sc_echelon.specs.Kernel.{IsKernelVector}
+use Rattle.sc_echelon.specs.Kernel.{IsKernelVector, IsNonzeroBelow, IsLeastBelow}
 use Rattle.sc_echelon.specs.Table.{slot, rows_of}
 use Rattle.sc_echelon.specs.Steps.{reduce, eliminate, clear_at, insert, led}
-use Rattle.sc_echelon.specs.Echelon.{zero_row, homogeneous, IsEchelon, HasKernelOf, IsEchelonStored, coeffs_at, coeffs_of, counted, on_below}
+use Rattle.sc_echelon.specs.Echelon.{zero_row, homogeneous, IsEchelon, HasKernelOf, IsEchelonStored, IsLastOff, IsLeadingEntry, coeffs_at, coeffs_of, counted, on_below}
 use Rattle.sc_echelon.proofs.KernelLaws.{one_more, filled_below, filled_all}
 use Rattle.sc_echelon.specs.Storage.{place, table_of}
 use Rattle.sc_echelon.specs.Knowledge.{xor_bytes, act_bytes}
 use Rattle.sc_echelon.proofs.StorageLaws.{table_of-off, slot-table_of, length-table_of}
-use Rattle.sc_echelon.proofs.Settle.{cases_option, none_is_not_some}
+use Rattle.sc_echelon.proofs.Settle.{cases_option, none_is_not_some, slot_within}
 use Rattle.sc_echelon.proofs.Insert.{solves_rows}
+use Rattle.sc_echelon.proofs.ReducedLaws.{least_found, least_none}
 use Rattle.sc_echelon.proofs.ReducedSteps.{IsLeftOf, start_left, free_left, pivot_left, kernel_known, clear_coeffs, insert_coeffs, echelon_start, kernel_start, echelon_new, kernel_new}
 
 module _ {A V : Type 0} where
@@ -152,13 +153,73 @@ module _ {A : Type 0} (used : List Bool) (rows : List (Row A (List ℕ))) (count
   abbrev blank : Row A (List ℕ)
   blank = record { coeffs = []; right = [] }
 
+  by_flag : (b : Bool) → get_or used col false ≡ b → slot (coeffs_of (table_of used rows)) col ≡ coeffs_at (place b (get_or rows col blank))
+  by_flag b is = slot-coeffs_of (table_of used rows) col ∙ ap coeffs_at (slot-table_of used rows col blank count l) ∙ ap (λ f. coeffs_at (place f (get_or rows col blank))) is
+
   pub flag_off : get_or used col false ≡ false → slot (coeffs_of (table_of used rows)) col ≡ None
-  flag_off off = slot-coeffs_of (table_of used rows) col ∙ ap coeffs_at (slot-table_of used rows col blank count l) ∙ ap (λ b. coeffs_at (place b (get_or rows col blank))) off
+  flag_off off = by_flag false off
 
   pub flag_on : {Y : Type 0} → get_or used col false ≡ true → slot (coeffs_of (table_of used rows)) col ≡ None → Y
-  flag_on on free =
-      none_is_not_some free
-      (slot-coeffs_of (table_of used rows) col ∙ ap coeffs_at (slot-table_of used rows col blank count l) ∙ ap (λ b. coeffs_at (place b (get_or rows col blank))) on)
+  flag_on on free = none_is_not_some free (by_flag true on)
+
+  -- a pivot's row is the one that is stored
+  pub flag_row : (cs : List A) → slot (coeffs_of (table_of used rows)) col ≡ Some cs → (get_or used col false ≡ true) × (cs ≡ (get_or rows col blank).coeffs)
+  flag_row cs e = elim (cases_Bool (get_or used col false)) [
+    | inl on ↦ (let s : ◌≡◌ {A = Option (List A)} (Some (get_or rows col blank).coeffs) (Some cs) = sym (by_flag true on) ∙ e in (on, cc))
+    | inr off ↦ none_is_not_some (flag_off off) e
+  ]
+
+-- ---- the least kernel vector
+module _ {A : Type 0} {IsElement : A → Type 0} {zero one : A} {add sub mul : A → A → A} {inv : A → A} (laws : IsField IsElement zero one add sub mul inv)
+    {number : A → ℕ} {element : ℕ → A} (numbered : IsNumbered IsElement zero one number element)
+    (used : List Bool) (rows : List (Row A (List ℕ))) (stored : IsEchelonStored IsElement zero one used rows) (below end : ℕ) (is_end : end ≡ min below (length used)) where
+  bound : end ≤ below
+  bound = omega arith
+
+  inside : end ≤ length used
+  inside = omega arith
+
+  whole : (below ≤ end) ⊎ (length used ≤ end)
+  whole = elim (cases_lt below (length used)) [ inl l ↦ inl (omega arith) | inr l ↦ inr (omega arith) ]
+
+  abbrev table : List (Option (List A))
+  table = coeffs_of (table_of used rows)
+
+  abbrev kernel : HasKernelOf IsElement zero add mul (length used) table (rows_of table)
+  kernel = kernel_kept zero add mul IsElement (length used) table
+
+  -- where the flags below the bound are all on, no kernel vector is nonzero there
+  pub least_none_stored : ((i : ℕ) → i < end → get_or used i false ≡ true)
+      → (v : List A) → IsKernelVector IsElement zero add mul (length used) (rows_of table) v → IsNonzeroBelow zero below v → ⊥
+  least_none_stored on v hv nz =
+      least_none laws (length used) (rows_of table) table stored.form kernel number numbered below
+      (λ i a b e. flag_on used rows stored.count i b (on i (elim whole [ inl p ↦ omega arith | inr p ↦ omega arith ])) e) v hv nz
+
+  -- the vector with these entries is the least
+  pub least_stored : (j : ℕ) → IsLastOff used end j → (u : List A) → length u ≡ length used
+      → ((i : ℕ) → i < length used → IsLeadingEntry zero one sub used rows j i (get_or u i zero))
+      → IsLeastBelow zero number (IsKernelVector IsElement zero add mul (length used) (rows_of table)) below u
+  least_stored j last u count entries =
+      let within = last.within in
+      least_found laws (length used) (rows_of table) table stored.form kernel number numbered below end j u bound inside whole
+      (record {
+        within = within;
+        free = flag_off used rows stored.count j (omega arith) last.off;
+        after = λ i a b e. flag_on used rows stored.count i (omega arith) (last.after i a b) e;
+      })
+      (record {
+        count = count;
+        one_there = (entries j (omega arith)).there last.off refl;
+        zero_elsewhere = λ i l ne e. elim (cases_Bool (get_or used i false)) [
+          | inl on ↦ flag_on used rows stored.count i l on e
+          | inr off ↦ (entries i l).elsewhere off ne
+        ];
+        at_pivots = λ i cs e.
+            let l = slot_within table i cs e in
+            let c = length-map (table_of used rows) coeffs_at ∙ length-table_of used rows stored.count in
+            let (on, is) = flag_row used rows stored.count i (omega arith) cs e in
+            (entries i (omega arith)).at_pivot on (record { coeffs = []; right = [] }) ∙ ap (λ (xs : List A). sub zero (get_or xs j zero)) (sym is);
+      })
 
 -- ---- how many flags are on
 pub on_more : (bs : List Bool) (k n : ℕ) → get_or bs k false ≡ true → n ≡ on_below bs k → n + 1 ≡ on_below bs (k + 1)

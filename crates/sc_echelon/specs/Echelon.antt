@@ -53,6 +53,19 @@ IsLastNonzero xs n o =
     MatchOption o ((j : ℕ) → j < n → slice_index_or xs j 0 ≡ 0)
     (λ p. (p < n) × (slice_index_or xs p 0 ≢ 0) × ((j : ℕ) → p < j → j < n → slice_index_or xs j 0 ≡ 0))
 
+-- of the flags below k, j is the last that is off
+pub record IsLastOff (flags : List Bool) (k j : ℕ) : Type 0 where
+  pub within : j < k
+  pub off : slice_index_or flags j false ≡ false
+  pub after : (i : ℕ) → j < i → i < k → slice_index_or flags i false ≡ true
+
+-- The entry x at column i of the kernel vector with a one at column col and zeros at the other free columns: at a pivot
+-- it is the negative of the row's coefficient at col.
+pub record IsLeadingEntry {A V : Type 0} (zero one : A) (sub : A → A → A) (used : List Bool) (rows : List (Row A V)) (col i : ℕ) (x : A) : Type 0 where
+  pub at_pivot : slice_index_or used i false ≡ true → (d : Row A V) → x ≡ sub zero (slice_index_or (slice_index_or rows i d).coeffs col zero)
+  pub there : slice_index_or used i false ≡ false → i ≡ col → x ≡ one
+  pub elsewhere : slice_index_or used i false ≡ false → i ≢ col → x ≡ zero
+
 -- how many of the first k flags are on
 abbrev pub counted : Bool → ℕ → ℕ
 counted true n = suc n

@@ -1,4 +1,5 @@
 pub mod Equation
+pub mod Touched
 pub mod Knowledge
 pub mod Table
 pub mod Kept

@@ -1,21 +1,26 @@
 //! One equation: a coefficient for each column, kept as its number, and the bytes on the right side.
-ghost use Rattle.std.specs.Prelude.{◌≡◌, ◌≢◌, ◌<◌, ◌≤◌, ◌++◌, ℕ, IfOk, MatchOption, All, true, false, length, map, take, drop, slice_index_or};
+ghost use Rattle.std.specs.Prelude.{◌≡◌, ◌≢◌, ◌<◌, ◌≤◌, ◌++◌, ℕ, IfOk, MatchOption, All, true, false, length, map, take, drop, slice_index, slice_index_or};
 ghost use Rattle.sc_field.specs.Field.{IsNumber};
 ghost use Rattle.sc_field.specs.Scale.{scaled_sum};
 ghost use Rattle.sc_echelon.specs.Knowledge.{zero_bytes, xor_bytes, act_bytes};
 ghost use Rattle.sc_echelon.specs.Steps.{plus_row, times_row};
-ghost use Rattle.sc_echelon.specs.Ring.{turn_row};
+ghost use Rattle.sc_echelon.specs.Ring.{rotate, turn_row};
 ghost use Rattle.sc_echelon.specs.Echelon.{IsLastNonzero};
+ghost use Rattle.sc_echelon.specs.Touched.{IsTouched};
 
-use sc_field::{Field, Multiplier, element_of, scale_add};
+use crate::tables::Tables;
+use sc_field::{Field, Multiplier, element_of};
 use sc_outside::NoMemory;
 use std::alloc::Global;
 use std::marker::{Model, PhantomData};
 
-// An equation. Its coefficients are kept as their numbers, so that a multiple of it is added by the vector kernel.
+// An equation. Its coefficients are kept as their numbers, so that a multiple of it is added by the vector kernel. They are
+// zero before the column `from`, and from the column `end` on.
 #[derive(Drop)]
 pub(crate) struct Equation<F: Field> {
     numbers: Vec<u8>,
+    from: usize,
+    end: usize,
     right: Vec<u8>,
     field: PhantomData<F>,
 }
@@ -25,6 +30,7 @@ impl<F: Field> Model for Equation<F> {
     ghost use Rattle.sc_field.specs.Field.{IsNumber};
     ghost use Rattle.sc_echelon.specs.Equation.{Row};
     ghost use Rattle.sc_echelon.specs.Kept.{row_code};
+    ghost use Rattle.sc_echelon.specs.Touched.{IsTouchedRow};
 
     ghost Value = { Row F (List ℕ) };
 
@@ -32,7 +38,7 @@ impl<F: Field> Model for Equation<F> {
 
     ghost view = { λ e. record { coeffs = map F.element e.numbers.items; right = e.right.items } };
 
-    ghost invariant = { λ e. All (IsNumber F.IsElement F.number F.element) e.numbers.items };
+    ghost invariant = { λ e. IsTouchedRow (IsNumber F.IsElement F.number F.element) e.from e.end e.numbers.items };
 }
 
 impl<F: Field> Equation<F> {
@@ -45,6 +51,8 @@ impl<F: Field> Equation<F> {
         let right = vec![in alloc; 0; width]?;
         Ok(Equation {
             numbers,
+            from: 0,
+            end: 0,
             right,
             field: PhantomData,
         })
@@ -56,6 +64,9 @@ impl<F: Field> Equation<F> {
         ensures value { result ≡ slice_index_or self.now.coeffs i F.zero }
         ensures element { F.IsElement result }
     {
+        if i < self.from || self.end <= i {
+            return F::zero();
+        }
         element_of(self.numbers[i])
     }
 
@@ -80,7 +91,7 @@ impl<F: Field> Equation<F> {
             (λ p. (p < length self.now.coeffs) × (slice_index_or self.now.coeffs p F.zero ≢ F.zero)
             × ((j : ℕ) → j < p → slice_index_or self.now.coeffs j F.zero ≡ F.zero)) }
     {
-        first_nonzero(self.numbers.as_slice())
+        first_nonzero(self.numbers.as_slice(), self.from, self.end)
     }
 
     // The last column whose coefficient is not zero.
@@ -89,7 +100,7 @@ impl<F: Field> Equation<F> {
             (λ p. (p < length self.now.coeffs) × (slice_index_or self.now.coeffs p F.zero ≢ F.zero)
             × ((j : ℕ) → p < j → slice_index_or self.now.coeffs j F.zero ≡ F.zero)) }
     {
-        last_nonzero(self.numbers.as_slice())
+        last_nonzero(self.numbers.as_slice(), self.from, self.end)
     }
 
     // A column other than `col` whose coefficient is not zero.
@@ -97,7 +108,7 @@ impl<F: Field> Equation<F> {
         ensures { MatchOption result ((j : ℕ) → j < length self.now.coeffs → j ≢ col → slice_index_or self.now.coeffs j F.zero ≡ F.zero)
             (λ j. (j < length self.now.coeffs) × (j ≢ col) × (slice_index_or self.now.coeffs j F.zero ≢ F.zero)) }
     {
-        another_nonzero(self.numbers.as_slice(), col)
+        another_nonzero(self.numbers.as_slice(), self.from, self.end, col)
     }
 
     // Writes an equation of the same sizes over this one.
@@ -108,6 +119,8 @@ impl<F: Field> Equation<F> {
         ensures elements { All F.IsElement coeffs.now }
     {
         write_numbers(self.numbers.as_mut_slice(), coeffs);
+        self.from = zeros_before(self.numbers.as_slice());
+        self.end = zeros_behind(self.numbers.as_slice(), self.from);
         self.right.as_mut_slice().copy_from_slice(right);
     }
 
@@ -118,17 +131,29 @@ impl<F: Field> Equation<F> {
         ensures { self.new ≡ record { coeffs = map F.element numbers.now; right = self.old.right } }
     {
         self.numbers.as_mut_slice().copy_from_slice(numbers);
+        self.from = zeros_before(self.numbers.as_slice());
+        self.end = zeros_behind(self.numbers.as_slice(), self.from);
     }
 
     // Adds `c` times `other`.
-    pub(crate) fn add_multiple(&mut self, c: F, other: &Equation<F>)
+    pub(crate) fn add_multiple(&mut self, c: F, other: &Equation<F>, tables: &mut Tables<F>)
         requires coeffs { length self.old.coeffs ≡ length other.now.coeffs }
         requires right { length self.old.right ≡ length other.now.right }
         ensures { self.new ≡ plus_row F.add F.mul xor_bytes (act_bytes F.act) self.old c other.now }
     {
         c.known();
-        scale_add(self.numbers.as_mut_slice(), c, other.numbers.as_slice());
-        scale_add(self.right.as_mut_slice(), c, other.right.as_slice());
+        add_both(
+            c,
+            tables,
+            self.numbers.as_mut_slice(),
+            other.numbers.as_slice(),
+            other.from,
+            other.end,
+            self.right.as_mut_slice(),
+            other.right.as_slice(),
+        );
+        self.from = self.from.min(other.from);
+        self.end = self.end.max(other.end);
     }
 
     // Multiplies the equation by `c`.
@@ -137,7 +162,7 @@ impl<F: Field> Equation<F> {
     {
         c.known();
         let by = Multiplier::new(c);
-        by.scale(self.numbers.as_mut_slice());
+        scale_between(&by, self.numbers.as_mut_slice(), self.from, self.end);
         by.scale(self.right.as_mut_slice());
     }
 
@@ -146,7 +171,15 @@ impl<F: Field> Equation<F> {
         requires { count ≤ length self.old.coeffs }
         ensures { self.new ≡ turn_row count self.old }
     {
-        self.numbers.as_mut_slice().rotate_left(count);
+        if self.from < count {
+            self.numbers.as_mut_slice().rotate_left(count);
+            self.from = 0;
+            self.end = self.numbers.len();
+        } else {
+            move_down(self.numbers.as_mut_slice(), self.from, self.end, count);
+            self.from -= count;
+            self.end -= count;
+        }
     }
 }
 
@@ -163,12 +196,106 @@ fn write_numbers<F: Field>(numbers: &mut [u8], xs: &[F])
     }
 }
 
+// How many zeros the bytes begin with.
+fn zeros_before(xs: &[u8]) -> usize
+    ensures within { result ≤ length xs.now }
+    ensures zeros { (j : ℕ) → j < result → slice_index xs.now j ≡ 0 }
+{
+    for i in 0..xs.len() {
+        if xs[i] != 0 {
+            return i;
+        }
+    }
+    xs.len()
+}
+
+// The end of the bytes from `from` on, without the zeros behind them.
+fn zeros_behind(xs: &[u8], from: usize) -> usize
+    requires { from ≤ length xs.now }
+    ensures order { from ≤ result }
+    ensures within { result ≤ length xs.now }
+    ensures zeros { (j : ℕ) → result ≤ j → slice_index xs.now j ≡ 0 }
+{
+    let mut end = xs.len();
+    while from < end && xs[end - 1] == 0 {
+        end -= 1;
+    }
+    end
+}
+
+// Adds `c` times `one` to `first`, and `c` times `other` to `second`. `one` is zero but for the bytes from `from` up to `end`.
+fn add_both<F: Field>(
+    c: F,
+    tables: &mut Tables<F>,
+    first: &mut [u8],
+    one: &[u8],
+    from: usize,
+    end: usize,
+    second: &mut [u8],
+    other: &[u8],
+)
+    requires first { length one.now ≡ length first.old }
+    requires second { length other.now ≡ length second.old }
+    requires touched { IsTouched from end one.now }
+    ensures first { first.new ≡ scaled_sum (F.act c) first.old one.now }
+    ensures second { second.new ≡ scaled_sum (F.act c) second.old other.now }
+{
+    match tables.find(c) {
+        Some(by) => add_by(by, first, one, from, end, second, other),
+        None => {
+            let by = Multiplier::new(c);
+            add_by(&by, first, one, from, end, second, other);
+            tables.keep(by);
+        }
+    }
+}
+
+// The same, by a multiplier.
+fn add_by<F: Field>(
+    by: &Multiplier<F>,
+    first: &mut [u8],
+    one: &[u8],
+    from: usize,
+    end: usize,
+    second: &mut [u8],
+    other: &[u8],
+)
+    requires first { length one.now ≡ length first.old }
+    requires second { length other.now ≡ length second.old }
+    requires touched { IsTouched from end one.now }
+    ensures first { first.new ≡ scaled_sum (F.act by.now.coefficient) first.old one.now }
+    ensures second { second.new ≡ scaled_sum (F.act by.now.coefficient) second.old other.now }
+{
+    by.coefficient.known();
+    by.scale_add(&mut first[from..end], &one[from..end]);
+    by.scale_add(second, other);
+}
+
+// Multiplies bytes that are zero but for those from `from` up to `end`.
+fn scale_between<F: Field>(by: &Multiplier<F>, xs: &mut [u8], from: usize, end: usize)
+    requires { IsTouched from end xs.old }
+    ensures { xs.new ≡ map (F.act by.now.coefficient) xs.old }
+{
+    by.coefficient.known();
+    by.scale(&mut xs[from..end]);
+}
+
+// Moves the bytes from `from` up to `end` down by `count`, where all others are zero.
+fn move_down(xs: &mut [u8], from: usize, end: usize, count: usize)
+    requires touched { IsTouched from end xs.old }
+    requires room { count ≤ from }
+    ensures { xs.new ≡ rotate count xs.old }
+{
+    xs[from - count..end].rotate_left(count);
+}
+
 // The first place with a byte other than 0.
-fn first_nonzero(xs: &[u8]) -> Option<usize>
+fn first_nonzero(xs: &[u8], from: usize, end: usize) -> Option<usize>
+    requires { IsTouched from end xs.now }
     ensures { MatchOption result ((j : ℕ) → j < length xs.now → slice_index_or xs.now j 0 ≡ 0)
         (λ p. (p < length xs.now) × (slice_index_or xs.now p 0 ≢ 0) × ((j : ℕ) → j < p → slice_index_or xs.now j 0 ≡ 0)) }
 {
-    for i in 0..xs.len() {
+    for i in from..end {
         if xs[i] != 0 {
             return Some(i);
         }
@@ -177,11 +304,12 @@ fn first_nonzero(xs: &[u8]) -> Option<usize>
 }
 
 // The last place with a byte other than 0.
-fn last_nonzero(xs: &[u8]) -> Option<usize>
+fn last_nonzero(xs: &[u8], from: usize, end: usize) -> Option<usize>
+    requires { IsTouched from end xs.now }
     ensures { IsLastNonzero xs.now (length xs.now) result }
 {
     let mut last = None;
-    for i in 0..xs.len() {
+    for i in from..end {
         if xs[i] != 0 {
             last = Some(i);
         }
@@ -190,11 +318,12 @@ fn last_nonzero(xs: &[u8]) -> Option<usize>
 }
 
 // A place other than `place` with a byte other than 0.
-fn another_nonzero(xs: &[u8], place: usize) -> Option<usize>
+fn another_nonzero(xs: &[u8], from: usize, end: usize, place: usize) -> Option<usize>
+    requires { IsTouched from end xs.now }
     ensures { MatchOption result ((j : ℕ) → j < length xs.now → j ≢ place → slice_index_or xs.now j 0 ≡ 0)
         (λ j. (j < length xs.now) × (j ≢ place) × (slice_index_or xs.now j 0 ≢ 0)) }
 {
-    for i in 0..xs.len() {
+    for i in from..end {
         if i != place && xs[i] != 0 {
             return Some(i);
         }

@@ -4,6 +4,7 @@ ghost use Rattle.sc_echelon.specs.Knowledge.{IsSolution, Follows, Contradicts, A
 
 use crate::equation::Equation;
 use crate::table::{add_work, blank_rows, forget_rows};
+use crate::tables::Tables;
 use sc_field::Field;
 use sc_outside::NoMemory;
 use std::alloc::Global;
@@ -36,6 +37,7 @@ pub struct Knowledge<F: Field> {
     used: Vec<bool>,
     rows: Vec<Equation<F>>,
     work: Equation<F>,
+    tables: Tables<F>,
 }
 
 impl<F: Field> Model for Knowledge<F> {
@@ -56,7 +58,8 @@ impl<F: Field> Model for Knowledge<F> {
 impl<F: Field> Knowledge<F> {
     /// Nothing is known of `cols` columns of `width` bytes.
     ///
-    /// It reserves a row of `cols` coefficients and `width` bytes for each column, and one more to work on.
+    /// It reserves a row of `cols` coefficients and `width` bytes for each column, one more to work on, and some 8 kB for
+    /// prepared coefficients.
     pub fn start(alloc: Global, cols: usize, width: usize) -> Result<Knowledge<F>, NoMemory>
         requires cols { cols ≤ MAX_COLS }
         requires width { 1 ≤ width }
@@ -66,11 +69,13 @@ impl<F: Field> Knowledge<F> {
         let used = vec![in alloc; false; cols]?;
         let rows = blank_rows(alloc, cols, width)?;
         let work = Equation::zeros(alloc, cols, width)?;
+        let tables = Tables::none(alloc)?;
         Ok(Knowledge {
             width,
             used,
             rows,
             work,
+            tables,
         })
     }
 
@@ -102,7 +107,8 @@ impl<F: Field> Knowledge<F> {
     /// `Clash` exactly where no solution meets it, and `Known` exactly where all do. Then nothing changes. Else it is
     /// `New`, and the solutions are those that meet it.
     ///
-    /// It costs a look at each column, and for each row that is kept and touched a pass over `cols + width` bytes.
+    /// It costs a few looks at each column, and for each row that it is cleared by, or that it clears, a pass over `width`
+    /// bytes and those columns from the first to the last that the added row touches.
     pub fn add_row(&mut self, coeffs: &[F], rhs: &[u8]) -> Added
         requires coeffs { length coeffs.now ≡ self.old.cols }
         requires rhs { length rhs.now ≡ self.old.width }
@@ -120,12 +126,13 @@ impl<F: Field> Knowledge<F> {
             self.used.as_mut_slice(),
             &mut self.work,
             width,
+            &mut self.tables,
         )
     }
 
     /// The bytes that every solution has at column `col`. None exactly where two solutions differ there.
     ///
-    /// It costs at most a look at each coefficient of one row.
+    /// It costs at most a look at each coefficient that one row touches.
     pub fn value_of(&self, col: usize) -> Option<&[u8]>
         requires { col < self.now.cols }
         ensures { MatchOption result (IsOpenAt F.act self.now col) (λ bytes. IsValueAt F.act self.now col bytes.now) }
@@ -146,7 +153,8 @@ impl<F: Field> Knowledge<F> {
     /// A list then is a solution exactly where some values of the forgotten columns in front of it, less its last
     /// `count` values, make a solution of before. So what the forgotten columns say of the others stays known.
     ///
-    /// It costs a pass over the coefficients of each row.
+    /// It costs a look at each row, and moves the coefficients of those that stay, from the first to the last that each
+    /// touches. No right side is moved.
     pub fn forget_front(&mut self, count: usize)
         requires { count ≤ self.old.cols }
         ensures cols { self.new.cols ≡ self.old.cols }

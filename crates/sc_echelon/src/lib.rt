@@ -5,6 +5,7 @@ mod equation;
 mod knowledge;
 mod reduced;
 mod table;
+mod tables;
 
 pub use knowledge::{Added, Knowledge, MAX_BYTES, MAX_COLS};
 pub use reduced::Reduced;

@@ -7,10 +7,11 @@ ghost use Rattle.sc_echelon.specs.Kept.{known_by, IsKept};
 ghost use Rattle.sc_echelon.specs.Storage.{table_of, ChangedBelow, IsStored};
 ghost use Rattle.sc_echelon.specs.Steps.{clear_at, insert, led, reduce};
 ghost use Rattle.sc_echelon.specs.Knowledge.{IsBytes, zero_bytes, xor_bytes, act_bytes, Follows, Contradicts, Adds, Forgets};
-ghost use Rattle.sc_echelon.specs.Ring.{turn_row};
+ghost use Rattle.sc_echelon.specs.Ring.{TurnedBelow};
 
 use crate::equation::Equation;
 use crate::knowledge::Added;
+use crate::tables::Tables;
 use sc_field::Field;
 use sc_outside::NoMemory;
 use std::alloc::Global;
@@ -35,7 +36,12 @@ pub(crate) fn blank_rows<F: Field>(
 }
 
 // Clears the row at each pivot of the table that `used` and `rows` store.
-pub(crate) fn clear_at_pivots<F: Field>(work: &mut Equation<F>, used: &[bool], rows: &[Equation<F>])
+pub(crate) fn clear_at_pivots<F: Field>(
+    work: &mut Equation<F>,
+    used: &[bool],
+    rows: &[Equation<F>],
+    tables: &mut Tables<F>,
+)
     requires count { length rows.now ≡ length used.now }
     requires width { length work.old.coeffs ≡ length used.now }
     requires widths { All (λ r. length r.coeffs ≡ length used.now) rows.now }
@@ -47,13 +53,19 @@ pub(crate) fn clear_at_pivots<F: Field>(work: &mut Equation<F>, used: &[bool], r
     for k in 0..used.len() {
         if used[k] {
             let factor = F::zero().sub(work.coeff(k));
-            work.add_multiple(factor, &rows[k]);
+            work.add_multiple(factor, &rows[k], tables);
         }
     }
 }
 
 // Clears column `p` in the rows in use, by a row that has a one there.
-fn clear_column<F: Field>(rows: &mut [Equation<F>], used: &[bool], p: usize, by: &Equation<F>)
+fn clear_column<F: Field>(
+    rows: &mut [Equation<F>],
+    used: &[bool],
+    p: usize,
+    by: &Equation<F>,
+    tables: &mut Tables<F>,
+)
     requires count { length rows.old ≡ length used.now }
     requires p_in { p < length by.now.coeffs }
     requires widths { All (λ r. length r.coeffs ≡ length by.now.coeffs) rows.old }
@@ -66,7 +78,7 @@ fn clear_column<F: Field>(rows: &mut [Equation<F>], used: &[bool], p: usize, by:
         if used[k] {
             let row = &mut rows[k];
             let factor = F::zero().sub(row.coeff(p));
-            row.add_multiple(factor, by);
+            row.add_multiple(factor, by, tables);
         }
     }
 }
@@ -77,6 +89,7 @@ pub(crate) fn insert_row<F: Field>(
     used: &mut [bool],
     work: &mut Equation<F>,
     p: usize,
+    tables: &mut Tables<F>,
 )
     requires count { length rows.old ≡ length used.old }
     requires p_in { p < length used.old }
@@ -95,7 +108,7 @@ pub(crate) fn insert_row<F: Field>(
 {
     let lead = work.coeff(p);
     work.multiply(lead.inv());
-    clear_column(rows, used, p, work);
+    clear_column(rows, used, p, work, tables);
     mem::swap(&mut rows[p], work);
     used[p] = true;
 }
@@ -106,6 +119,7 @@ pub(crate) fn add_work<F: Field>(
     used: &mut [bool],
     work: &mut Equation<F>,
     width: usize,
+    tables: &mut Tables<F>,
 ) -> Added
     requires stored { IsStored F.IsElement F.zero F.one width used.old rows.old work.old }
     requires row { IsRow F.IsElement (IsBytes width) (length used.old) work.old }
@@ -117,10 +131,10 @@ pub(crate) fn add_work<F: Field>(
         (known_by (length used.old) width (table_of used.new rows.new)) }
     ensures stays { result ≢ Added.New → table_of used.new rows.new ≡ table_of used.old rows.old }
 {
-    clear_at_pivots(work, used, rows);
+    clear_at_pivots(work, used, rows, tables);
     match work.first_nonzero() {
         Some(p) => {
-            insert_row(rows, used, work, p);
+            insert_row(rows, used, work, p, tables);
             Added::New
         }
         None => {
@@ -133,13 +147,19 @@ pub(crate) fn add_work<F: Field>(
     }
 }
 
-// Turns the coefficients of each row.
-fn turn_rows<F: Field>(rows: &mut [Equation<F>], count: usize)
-    requires { All (λ r. count ≤ length r.coeffs) rows.old }
-    ensures { rows.new ≡ map (turn_row count) rows.old }
+// Turns the coefficients of each row in use that stands at place `count` or behind it.
+fn turn_rows<F: Field>(rows: &mut [Equation<F>], used: &[bool], count: usize)
+    requires size { length rows.old ≡ length used.now }
+    requires fits { count ≤ length used.now }
+    requires widths { All (λ r. length r.coeffs ≡ length used.now) rows.old }
+    ensures turned { TurnedBelow count used.now rows.old (length used.now) rows.new }
+    ensures widths { All (λ r. length r.coeffs ≡ length used.now) rows.new }
+    ensures rights { (w : ℕ) → All (λ r. length r.right ≡ w) rows.old → All (λ r. length r.right ≡ w) rows.new }
 {
-    for k in 0..rows.len() {
-        rows[k].turn(count);
+    for k in count..used.len() {
+        if used[k] {
+            rows[k].turn(count);
+        }
     }
 }
 
@@ -166,7 +186,7 @@ pub(crate) fn forget_rows<F: Field>(
     ensures solutions { Forgets F.act count (known_by (length used.old) width (table_of used.old rows.old))
         (known_by (length used.old) width (table_of used.new rows.new)) }
 {
-    turn_rows(rows, count);
+    turn_rows(rows, used, count);
     rows.rotate_left(count);
     used.rotate_left(count);
     let from = used.len() - count;

@@ -402,18 +402,31 @@ fn fill<F: Field>(
 }
 
 // Asserts the rank of the matrix, and for each column whether it is free.
-fn assert_reduced<F: Field>(
-    rt: &impl Abort,
-    alloc: Global,
-    m: &Matrix<F>,
-    free: &[u8],
-    rank: usize,
-) -> Result<(), Fail> {
-    let r = Reduced::of(alloc, m)?;
+fn assert_free<F: Field>(rt: &impl Abort, r: &Reduced<F>, free: &[u8], rank: usize) {
     assert_eq!(rt; r.rank(), rank);
     for (col, f) in free.iter().enumerate() {
         assert!(rt; col < r.cols());
         assert_eq!(rt; r.is_free(col), *f == 1, "column {col}");
+    }
+}
+
+// Asserts that the least vector of the kernel that is not zero below the bound has these numbers. All zeros stand for none.
+fn assert_least<F: Field>(
+    rt: &impl Abort,
+    alloc: Global,
+    r: &Reduced<F>,
+    below: usize,
+    numbers: &[u8],
+) -> Result<(), Fail> {
+    match r.least_kernel(alloc, below)? {
+        Some(vector) => {
+            assert_eq!(rt; vector.len(), numbers.len());
+            for (x, n) in vector.iter().zip(numbers) {
+                assert_eq!(rt; x.number(), *n, "below {below}");
+            }
+            assert!(rt; numbers.iter().any(|n| *n != 0));
+        }
+        None => assert!(rt; numbers.iter().all(|n| *n == 0)),
     }
     Ok(())
 }
@@ -422,7 +435,12 @@ fn assert_reduced<F: Field>(
 fn worked_matrix<F: Field>(rt: &impl Abort, alloc: Global) -> Result<(), Fail> {
     let mut m = Matrix::<F>::zeros(alloc, 1, 4)?;
     fill(rt, &mut m, 4, &[1, 0, 0, 1])?;
-    assert_reduced(rt, alloc, &m, &[1, 1, 1, 0], 1)
+    let r = Reduced::of(alloc, &m)?;
+    assert_free(rt, &r, &[1, 1, 1, 0], 1);
+    assert_least(rt, alloc, &r, 2, &[0, 1, 0, 0])?;
+    assert_least(rt, alloc, &r, 1, &[1, 0, 0, 1])?;
+    assert_least(rt, alloc, &r, 9, &[0, 0, 1, 0])?;
+    assert_least(rt, alloc, &r, 0, &[0, 0, 0, 0])
 }
 
 #[test]
@@ -435,44 +453,57 @@ fn worked_matrix_over_bytes(rt: HostRuntime) -> Result<(), Fail> {
     worked_matrix::<Gf256>(&rt, rt.alloc())
 }
 
-// Matrices of three rows and five columns over GF(2), the columns that are free and the rank, as a script lists them that
-// goes through all vectors.
-const MATRICES: [[u8; 21]; 12] = [
+// Matrices of three rows and five columns over GF(2), the columns that are free, the rank, and for each bound from 1 to 5 the
+// least vector of the kernel that is not zero below it, all zeros where there is none. A script lists them that goes through
+// all vectors.
+const MATRICES: [[u8; 46]; 12] = [
     [
-        1, 0, 0, 1, 0, 0, 0, 0, 1, 0, 1, 1, 1, 0, 0, 0, 1, 0, 0, 1, 3,
+        1, 0, 0, 1, 0, 0, 0, 0, 1, 0, 1, 1, 1, 0, 0, 0, 1, 0, 0, 1, 3, 0, 0, 0, 0, 0, 0, 1, 1, 0,
+        0, 0, 1, 1, 0, 0, 0, 1, 1, 0, 0, 0, 0, 0, 0, 1,
     ],
     [
-        0, 1, 0, 0, 0, 1, 0, 0, 0, 0, 0, 0, 1, 0, 1, 0, 0, 1, 1, 0, 3,
+        0, 1, 0, 0, 0, 1, 0, 0, 0, 0, 0, 0, 1, 0, 1, 0, 0, 1, 1, 0, 3, 0, 0, 0, 0, 0, 0, 0, 0, 0,
+        0, 0, 0, 1, 0, 1, 0, 0, 0, 1, 0, 0, 0, 0, 1, 0,
     ],
     [
-        0, 1, 0, 0, 1, 1, 1, 0, 0, 0, 1, 0, 0, 0, 1, 1, 0, 1, 1, 0, 2,
+        0, 1, 0, 0, 1, 1, 1, 0, 0, 0, 1, 0, 0, 0, 1, 1, 0, 1, 1, 0, 2, 1, 1, 0, 0, 1, 1, 1, 0, 0,
+        1, 0, 0, 1, 0, 0, 0, 0, 0, 1, 0, 0, 0, 0, 1, 0,
     ],
     [
-        0, 0, 1, 1, 0, 0, 0, 0, 0, 0, 1, 0, 1, 1, 0, 0, 1, 1, 0, 1, 2,
+        0, 0, 1, 1, 0, 0, 0, 0, 0, 0, 1, 0, 1, 1, 0, 0, 1, 1, 0, 1, 2, 0, 0, 0, 0, 0, 0, 1, 0, 0,
+        0, 0, 0, 1, 1, 0, 0, 0, 1, 1, 0, 0, 0, 0, 0, 1,
     ],
     [
-        1, 1, 0, 1, 0, 0, 0, 0, 0, 1, 1, 1, 1, 0, 0, 1, 1, 0, 0, 0, 3,
+        1, 1, 0, 1, 0, 0, 0, 0, 0, 1, 1, 1, 1, 0, 0, 1, 1, 0, 0, 0, 3, 1, 0, 1, 1, 0, 0, 1, 1, 1,
+        0, 0, 1, 1, 1, 0, 0, 1, 1, 1, 0, 0, 1, 1, 1, 0,
     ],
     [
-        0, 0, 1, 1, 0, 1, 1, 0, 1, 0, 0, 1, 0, 0, 0, 1, 0, 0, 0, 1, 3,
+        0, 0, 1, 1, 0, 1, 1, 0, 1, 0, 0, 1, 0, 0, 0, 1, 0, 0, 0, 1, 3, 1, 0, 1, 1, 0, 1, 0, 1, 1,
+        0, 1, 0, 1, 1, 0, 1, 0, 1, 1, 0, 0, 0, 0, 0, 1,
     ],
     [
-        0, 0, 0, 0, 1, 1, 1, 1, 0, 0, 0, 0, 0, 1, 0, 1, 1, 0, 0, 0, 3,
+        0, 0, 0, 0, 1, 1, 1, 1, 0, 0, 0, 0, 0, 1, 0, 1, 1, 0, 0, 0, 3, 1, 0, 1, 0, 0, 0, 1, 1, 0,
+        0, 0, 1, 1, 0, 0, 0, 1, 1, 0, 0, 0, 1, 1, 0, 0,
     ],
     [
-        0, 0, 0, 1, 0, 1, 1, 0, 1, 0, 0, 0, 1, 1, 1, 1, 0, 1, 0, 0, 3,
+        0, 0, 0, 1, 0, 1, 1, 0, 1, 0, 0, 0, 1, 1, 1, 1, 0, 1, 0, 0, 3, 1, 1, 0, 0, 0, 1, 1, 0, 0,
+        0, 0, 0, 1, 0, 1, 0, 0, 1, 0, 1, 0, 0, 1, 0, 1,
     ],
     [
-        1, 0, 0, 0, 0, 0, 1, 1, 0, 0, 0, 0, 0, 1, 1, 0, 1, 0, 1, 0, 3,
+        1, 0, 0, 0, 0, 0, 1, 1, 0, 0, 0, 0, 0, 1, 1, 0, 1, 0, 1, 0, 3, 0, 0, 0, 0, 0, 0, 1, 1, 0,
+        0, 0, 1, 1, 0, 0, 0, 0, 0, 1, 1, 0, 0, 0, 1, 1,
     ],
     [
-        0, 1, 1, 0, 1, 1, 1, 0, 1, 0, 1, 1, 0, 0, 0, 1, 0, 1, 0, 0, 3,
+        0, 1, 1, 0, 1, 1, 1, 0, 1, 0, 1, 1, 0, 0, 0, 1, 0, 1, 0, 0, 3, 1, 1, 0, 0, 1, 1, 1, 0, 0,
+        1, 0, 0, 1, 0, 1, 0, 0, 1, 0, 1, 0, 0, 1, 0, 1,
     ],
     [
-        1, 1, 0, 0, 0, 1, 1, 1, 0, 0, 0, 1, 0, 0, 1, 1, 0, 0, 1, 0, 3,
+        1, 1, 0, 0, 0, 1, 1, 1, 0, 0, 0, 1, 0, 0, 1, 1, 0, 0, 1, 0, 3, 1, 1, 0, 0, 1, 1, 1, 0, 0,
+        1, 1, 1, 0, 0, 1, 0, 0, 0, 1, 0, 0, 0, 0, 1, 0,
     ],
     [
-        1, 0, 0, 0, 0, 0, 1, 0, 1, 1, 0, 1, 1, 1, 0, 0, 1, 1, 0, 0, 3,
+        1, 0, 0, 0, 0, 0, 1, 0, 1, 1, 0, 1, 1, 1, 0, 0, 1, 1, 0, 0, 3, 0, 0, 0, 0, 0, 0, 1, 0, 1,
+        0, 0, 0, 1, 1, 1, 0, 0, 1, 1, 1, 0, 0, 1, 1, 1,
     ],
 ];
 
@@ -482,19 +513,34 @@ fn listed_matrices(rt: HostRuntime) -> Result<(), Fail> {
     let mut m = Matrix::<Gf2>::zeros(alloc, 3, 5)?;
     for line in &MATRICES {
         fill(&rt, &mut m, 5, &line[..15])?;
-        assert_reduced(&rt, alloc, &m, &line[15..20], line[20] as usize)?;
+        let r = Reduced::of(alloc, &m)?;
+        assert_free(&rt, &r, &line[15..20], line[20] as usize);
+        for below in 1..6 {
+            assert_least(&rt, alloc, &r, below, &line[5 * below + 16..5 * below + 21])?;
+        }
     }
     Ok(())
 }
 
+// The last column is the sum of columns 3 and 100, so the kernel is what a one at these three makes.
 #[test]
 fn matrix_of_real_size(rt: HostRuntime) -> Result<(), Fail> {
     let alloc = rt.alloc();
     let mut m = Matrix::<Gf256>::zeros(alloc, 1000, 144)?;
     for i in 0..1000 {
-        for j in 0..144 {
+        for j in 0..143 {
             put(&rt, &mut m, i, j, mixed(i, j))?;
         }
+        put(&rt, &mut m, i, 143, mixed(i, 3) ^ mixed(i, 100))?;
     }
-    assert_reduced(&rt, alloc, &m, &[0; 144], 144)
+    let r = Reduced::of(alloc, &m)?;
+    let mut free = [0; 144];
+    free[3] = 1;
+    assert_free(&rt, &r, &free, 143);
+    let mut least = [0; 144];
+    assert_least(&rt, alloc, &r, 3, &least)?;
+    least[3] = 1;
+    least[100] = 1;
+    least[143] = 1;
+    assert_least(&rt, alloc, &r, 4, &least)
 }

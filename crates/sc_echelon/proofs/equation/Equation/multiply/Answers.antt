@@ -3,18 +3,24 @@ use Rattle.std.proofs.lemmas.List.{with_items_is}
 use Rattle.std.proofs.lemmas.List.Elements.{All-same}
 use Rattle.sc_field.specs.Field.{IsNumber}
 use Rattle.sc_matrix.specs.Vector.{scale_vector}
+use Rattle.sc_field.specs.ActionLemmas.{act_zero}
+use Rattle.sc_echelon.proofs.Touched.{IsTouchedRow-same, IsTouched-map}
 use Rattle.sc_echelon.proofs.NumberRows.{numbers_scaled, elements_scaled, same_row}
 use Rattle.sc_echelon.proofs.equation.Equation.multiply.Goals as goal
 
 pub invariant_of-self : goal.invariant_of-self
 invariant_of-self g c =
     let act = g.F.Field.act in
+    let x = c.args.c in
+    let ns = c.self.inside.numbers.items in
     let Number = IsNumber g.F.Field.IsElement g.F.Field.number g.F.Field.element in
-    All-same Number _ (map (act c.args.c) c.as_mut_slice.result.now)
-    (with_items_is c.self.inside.numbers c.scale.new.dst (c.scale.auto.dst ∙ c.as_mut_slice.ensures.len)
-    ∙ c.scale.ensures ∙ ap (λ x. map (act x) c.as_mut_slice.result.now) c.new-by.ensures)
-    (numbers_scaled g.met.F.Field.field g.met.F.Field.action g.met.F.Field.numbered g.met.F.Field.by_number c.as_mut_slice.result.now c.args.c c.known.ensures
-    (All-same Number _ _ c.as_mut_slice.ensures.value c.self.invariant))
+    IsTouchedRow-same Number c.self.inside.from c.self.inside.end _ (map (act x) ns)
+    (with_items_is c.self.inside.numbers c.scale_between.new.xs (c.scale_between.auto.xs ∙ c.as_mut_slice.ensures.len)
+    ∙ c.scale_between.ensures ∙ ap₂ (λ y us. map (act y) us) c.new-by.ensures c.as_mut_slice.ensures.value)
+    (record {
+      all = numbers_scaled g.met.F.Field.field g.met.F.Field.action g.met.F.Field.numbered g.met.F.Field.by_number ns x c.known.ensures c.self.invariant.all;
+      touched = IsTouched-map (act x) ns c.self.inside.from c.self.inside.end (act_zero g.met.F.Field.field g.met.F.Field.action x c.known.ensures) c.self.invariant.touched;
+    })
 
 pub returns : goal.returns
 returns g c =
@@ -25,10 +31,10 @@ returns g c =
     let by = c.new-by.ensures in
     same_row _ _ _ _
     (ap (map element)
-    (with_items_is c.self.inside.numbers c.scale.new.dst (c.scale.auto.dst ∙ c.as_mut_slice.ensures.len)
-    ∙ c.scale.ensures ∙ ap (λ x. map (act x) c.as_mut_slice.result.now) by)
+    (with_items_is c.self.inside.numbers c.scale_between.new.xs (c.scale_between.auto.xs ∙ c.as_mut_slice.ensures.len)
+    ∙ c.scale_between.ensures ∙ ap (λ x. map (act x) c.as_mut_slice.result.now) by)
     ∙ elements_scaled g.met.F.Field.field g.met.F.Field.action g.met.F.Field.numbered g.met.F.Field.by_number c.as_mut_slice.result.now c.args.c c.known.ensures
-    (All-same Number _ _ c.as_mut_slice.ensures.value c.self.invariant)
+    (All-same Number _ _ c.as_mut_slice.ensures.value c.self.invariant.all)
     ∙ ap (scale_vector mul c.args.c) (ap (map element) c.as_mut_slice.ensures.value ∙ ap (λ r. r.coeffs) c.self.view_is))
-    (with_items_is c.self.inside.right c.scale-2.new.dst (c.scale-2.auto.dst ∙ c.as_mut_slice-2.ensures.len)
-    ∙ c.scale-2.ensures ∙ ap₂ (λ x bs. map (act x) bs) by (c.as_mut_slice-2.ensures.value ∙ ap (λ r. r.right) c.self.view_is))
+    (with_items_is c.self.inside.right c.scale.new.dst (c.scale.auto.dst ∙ c.as_mut_slice-2.ensures.len)
+    ∙ c.scale.ensures ∙ ap₂ (λ x bs. map (act x) bs) by (c.as_mut_slice-2.ensures.value ∙ ap (λ r. r.right) c.self.view_is))
