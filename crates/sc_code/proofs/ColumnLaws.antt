@@ -38,7 +38,7 @@ All-map_range P f n h k d lt =
 -- ---- bytes of blocks
 
 -- two symbols of m bytes are equal where their bytes are
-same_symbol : (m : ℕ) (a b : List ℕ) → IsVector IsByte m a → IsVector IsByte m b → ((c : ℕ) → c < m → get_or a c 0 ≡ get_or b c 0) → a ≡ b
+same_symbol : {P : ℕ → Type 0} (m : ℕ) (a b : List ℕ) → IsVector P m a → IsVector P m b → ((c : ℕ) → c < m → get_or a c 0 ≡ get_or b c 0) → a ≡ b
 same_symbol m a b ha hb e =
     same_lists a b (ha.width ∙ sym hb.width)
     (λ c d h.
@@ -47,7 +47,7 @@ same_symbol m a b ha hb e =
     get_or_default a c d 0 h ∙ e c in_m ∙ get_or_default b c 0 d in_b)
 
 -- Two blocks of k symbols of m bytes are equal where their bytes are.
-pub same_block_from_bytes : (k m : ℕ) (a b : List (List ℕ)) → IsBlock k m a → IsBlock k m b → ((i c : ℕ) → i < k → c < m → byte_at a i c ≡ byte_at b i c) → a ≡ b
+pub same_block_from_bytes : {P : ℕ → Type 0} (k m : ℕ) (a b : List (List ℕ)) → IsVector (IsVector P m) k a → IsVector (IsVector P m) k b → ((i c : ℕ) → i < k → c < m → byte_at a i c ≡ byte_at b i c) → a ≡ b
 same_block_from_bytes k m a b ha hb e =
     same_lists a b (ha.width ∙ sym hb.width)
     (λ i d h.

@@ -22,4 +22,7 @@ pub mod LastBlocksLaws
 pub mod MeetsLaws
 pub mod ClassLaws
 pub mod ElementLaws
-mod StreamSteps
+pub mod StreamSteps
+pub mod RingSteps
+pub mod SumSteps
+pub mod EncoderSteps

@@ -7,6 +7,8 @@ ghost use Rattle.sc_code.specs.Code.{IsInRange, HasShape, IsCode, coefficient};
 use sc_channel::Channel;
 use sc_field::{Field, Gf256};
 use sc_matrix::Matrix;
+use sc_outside::NoMemory;
+use std::alloc::Global;
 use std::error::Error;
 use std::fmt;
 use std::marker::Model;
@@ -87,6 +89,21 @@ impl<F: Field> Code<F> {
             return Err(CodeFault::Shape);
         }
         Ok(Code { k, r, lags })
+    }
+
+    /// An equal code.
+    pub fn copy(&self, alloc: Global) -> Result<Code<F>, NoMemory>
+        ensures { IfOk result (λ code. code ≡ self.now) }
+    {
+        let mut lags = Vec::with_capacity(alloc, self.lags.len())?;
+        for m in &self.lags {
+            lags.push(m.copy(alloc)?)?;
+        }
+        Ok(Code {
+            k: self.k,
+            r: self.r,
+            lags,
+        })
     }
 
     /// The number of symbols in a block.
