@@ -15,3 +15,6 @@ pub use laws::{
     refutations_refute, width_one_is_enough,
 };
 pub use stream::Stream;
+
+#[cfg(test)]
+mod tests;
