@@ -2,7 +2,7 @@
 use Rattle.std.proofs.Common.{◌≡◌, ℕ, zero, suc, ◌+◌, ◌*◌, ◌%◌, ◌<◌, List, length, get_or, map, refl, sym, ap, ◌∙◌, arith, suc-add, zero-add}
 use Rattle.std.specs.List.{range_with_len}
 use Rattle.std.proofs.lemmas.List.FromFn.{fill_by_all, length-map-range_with_len, get_or-map-range_with_len}
-use Rattle.rand_pcg.specs.Lcg.{Lcg, next, next_state, advance, state_after}
+use Rattle.rand_pcg.specs.Lcg.{Lcg, next_state, advance, state_after}
 use Rattle.rand_pcg.specs.Pcg.{multiplier_64, pcg32}
 use Rattle.sc_trial.specs.Draw.{word_at, drawn}
 

@@ -60,7 +60,9 @@ fn files(rt: HostRuntime) -> Result<(), Fail> {
     fs::remove_file(&rt, path.as_path())?;
     let gone = cabinet.fetch(rt.alloc(), path.as_path().as_str(), 10);
     assert!(rt; whole.is_ok_and(|bytes| bytes.as_slice() == text.as_slice()));
-    assert!(rt; start.is_ok_and(|bytes| bytes.as_slice() == &text[..70_001]));
+    assert!(rt;
+        start.is_ok_and(|bytes| bytes.len() == 70_001 && text.starts_with(bytes.as_slice()))
+    );
     assert!(rt; gone.is_err_and(|fault| fault == FetchFault::Failed));
     assert_eq!(rt; cabinet.faults, 1);
     Ok(())

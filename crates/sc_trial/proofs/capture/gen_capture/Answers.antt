@@ -1,4 +1,4 @@
-use Rattle.std.proofs.Common.{◌≡◌, ◌++◌, refl, ap, ◌∙◌}
+use Rattle.std.proofs.Common.{◌++◌, refl, ap, ◌∙◌}
 use Rattle.sc_outside.proofs.EndsLaws.{Ends-no_memory}
 use Rattle.sc_trial.specs.Generated.{standard_preamble, generating}
 use Rattle.sc_trial.proofs.RecordSteps.{records_failed, last_failed, all_given}

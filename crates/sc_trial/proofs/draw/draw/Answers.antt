@@ -1,4 +1,4 @@
-use Rattle.std.proofs.Common.{◌≡◌, ℕ, ◌+◌, ◌%◌, ◌<◌, ◌≢◌, length, sym, ap, ◌∙◌, arith, below_more, get_or-set_other, get_or-set_same, add-zero}
+use Rattle.std.proofs.Common.{◌≡◌, ℕ, ◌%◌, ◌<◌, ◌≢◌, length, sym, ap, ◌∙◌, arith, below_more, get_or-set_other, get_or-set_same, add-zero}
 use Rattle.rand_pcg.specs.Lcg.{Lcg, advance}
 use Rattle.rand_pcg.specs.Pcg.{multiplier_64}
 use Rattle.sc_trial.specs.Draw.{word_at}
