@@ -3,4 +3,5 @@ pub mod Numbers
 pub mod OneForm
 pub mod LossWord
 pub mod JobLaws
+pub mod RunLaws
 pub mod LoseLaws

@@ -3,7 +3,8 @@ ghost use Rattle.std.specs.Prelude.{◌≡◌, ◌⊎◌, ◌↔◌, ◌≤◌, 
 ghost use Rattle.sc_outside.specs.Ends.{Ends, GivesPrefix};
 ghost use Rattle.sc_outside.specs.Faults.{Rose};
 ghost use Rattle.streamcode.specs.Command.{meaning, HasItsForms};
-ghost use Rattle.streamcode.specs.Jobs.{command_job, job_of, RunEnds, IsDueStatus, IsOutsideStatus, IsQuiet, IsSilent};
+ghost use Rattle.streamcode.specs.Plans.{PlanEnds, due_of, IsSilentPlan, LacksOne};
+ghost use Rattle.streamcode.specs.Runs.{command_plan, files_of, plan_of, RunEnds, IsDueStatus, ReadRose, IsOutsideStatus, IsQuiet};
 ghost use Rattle.streamcode.specs.Words.{command_of, texts};
 
 use crate::end::End;
@@ -11,14 +12,19 @@ use crate::generate::generate;
 use crate::lose::lose;
 use crate::note::conclude;
 use crate::words::{Command, read_words};
-use sc_outside::{Port, Sink};
+use sc_outside::{Cabinet, Port, Sink};
 use std::alloc::Global;
 
 /// Does a command.
-fn perform<P: Port>(alloc: Global, command: Command<'_>, port: &mut P) -> End
+fn perform<C: Cabinet, P: Port>(
+    alloc: Global,
+    command: Command<'_>,
+    cabinet: &mut C,
+    port: &mut P,
+) -> End
     requires { HasItsForms command }
-    ensures ends { Ends (command_job (Some (meaning command.entry))) (P.told port.old) (P.told port.new) result }
-    ensures untouched { IsSilent (command_job (Some (meaning command.entry))) → port.new ≡ port.old }
+    ensures { PlanEnds P.told (command_plan (Some (meaning command.entry))) (C.told cabinet.old) (C.told cabinet.new)
+        port.old port.new result }
 {
     match command {
         Command::LoseWord { channel, flags } => lose(alloc, channel, flags, port),
@@ -27,46 +33,63 @@ fn perform<P: Port>(alloc: Global, command: Command<'_>, port: &mut P) -> End
 }
 
 /// Does what the words ask for.
-fn answer<P: Port>(alloc: Global, words: &Vec<String>, port: &mut P) -> End
-    ensures ends { Ends (job_of (texts words.now.items)) (P.told port.old) (P.told port.new) result }
-    ensures untouched { IsSilent (job_of (texts words.now.items)) → port.new ≡ port.old }
+fn answer<C: Cabinet, P: Port>(
+    alloc: Global,
+    words: &Vec<String>,
+    cabinet: &mut C,
+    port: &mut P,
+) -> End
+    ensures { PlanEnds P.told (plan_of (texts words.now.items)) (C.told cabinet.old) (C.told cabinet.new)
+        port.old port.new result }
 {
     match read_words(words) {
-        Some(command) => perform(alloc, command, port),
+        Some(command) => perform(alloc, command, cabinet, port),
         None => End::Usage,
     }
 }
 
 /// Does what the words of a command line ask for, tells a note, and answers the status with which the program ends.
 ///
-/// `words` are those after the program's name. The commands, their statuses and their notes are listed in
-/// docs/COMMANDS.md.
-pub fn run<P: Port, N: Sink>(alloc: Global, words: &Vec<String>, port: &mut P, notes: &mut N) -> u8
-    // Every run ends by the one relation: who decided it, over the bytes that were taken and put, with its status and its
-    // note. All that follows is said by it.
-    ensures ends { RunEnds (job_of (texts words.now.items)) (P.told port.old) (P.told port.new)
+/// `words` are those after the program's name. Files that they name come from the cabinet. The commands, their statuses
+/// and their notes are listed in docs/COMMANDS.md.
+pub fn run<C: Cabinet, P: Port, N: Sink>(
+    alloc: Global,
+    words: &Vec<String>,
+    cabinet: &mut C,
+    port: &mut P,
+    notes: &mut N,
+) -> u8
+    // Every run ends by the one relation: who decided it, over the files that came and the bytes that were taken and put,
+    // with its status and its note. All that follows is said by it.
+    ensures ends { RunEnds P.told (plan_of (texts words.now.items)) (C.told cabinet.old) (C.told cabinet.new) port.old port.new
         (N.told notes.old) (N.told notes.new) result }
 
-    // The status and the bytes are those that are due, or a fault was counted, or memory ran out. Where no fault was
-    // counted, they are those that are due, or the status is 9.
+    // The status and the bytes are those that are due by the words, the files and the input, or a fault was counted, or
+    // memory ran out. Where no fault was counted, they are those that are due, or the status is 9.
     ensures decided { IfSome (P.told port.old).left (λ input.
-        IsDueStatus ((job_of (texts words.now.items)).whole input) (P.told port.old) (P.told port.new) result
-        ⊎ IsOutsideStatus (P.told port.old) (P.told port.new) result) }
-    ensures quiet { IsQuiet (P.told port.old) (P.told port.new) → IfSome (P.told port.old).left (λ input.
-        IsDueStatus ((job_of (texts words.now.items)).whole input) (P.told port.old) (P.told port.new) result
-        ⊎ (result ≡ 9)) }
+        IfSome (due_of (plan_of (texts words.now.items)) (C.told cabinet.old).files input) (λ due.
+        IsDueStatus due (P.told port.old) (P.told port.new) result
+        ⊎ IsOutsideStatus (C.told cabinet.old) (C.told cabinet.new) (P.told port.old) (P.told port.new) result)) }
+    ensures quiet { IsQuiet (C.told cabinet.old) (C.told cabinet.new) (P.told port.old) (P.told port.new) →
+        IfSome (P.told port.old).left (λ input.
+        IfSome (due_of (plan_of (texts words.now.items)) (C.told cabinet.old).files input) (λ due.
+        IsDueStatus due (P.told port.old) (P.told port.new) result ⊎ (result ≡ 9))) }
 
     // Whatever the status, a prefix of what is due was given.
     ensures prefix { IfSome (P.told port.old).left (λ input.
-        GivesPrefix (P.told port.old) (P.told port.new) ((job_of (texts words.now.items)).whole input).text) }
+        IfSome (due_of (plan_of (texts words.now.items)) (C.told cabinet.old).files input) (λ due.
+        GivesPrefix (P.told port.old) (P.told port.new) due.text)) }
 
-    // Status 2 comes exactly where the words have no form. 7 and 8 come only where the port's own count rose. A job that
-    // neither reads nor gives leaves the port alone.
+    // Status 2 comes exactly where the words have no form. 7 comes only where a count of reads or of fetches rose, or the
+    // files are told and lack one that the words name, and 8 only where the port's count of writes rose. Where nothing is
+    // read or given, whatever the files hold, the port is left alone.
     ensures usage { (result ≡ 2) ↔ (command_of (texts words.now.items) ≡ None) }
-    ensures read_fault { result ≡ 7 → Rose (P.told port.old).read_faults (P.told port.new).read_faults }
+    ensures read_fault { result ≡ 7 →
+        ReadRose (C.told cabinet.old) (C.told cabinet.new) (P.told port.old) (P.told port.new)
+        ⊎ LacksOne (C.told cabinet.old).files (files_of (command_of (texts words.now.items))) }
     ensures write_fault { result ≡ 8 → Rose (P.told port.old).write_faults (P.told port.new).write_faults }
-    ensures untouched { IsSilent (job_of (texts words.now.items)) → port.new ≡ port.old }
+    ensures untouched { IsSilentPlan (plan_of (texts words.now.items)) → port.new ≡ port.old }
 {
-    let end = answer(alloc, words, port);
+    let end = answer(alloc, words, cabinet, port);
     conclude(notes, end)
 }

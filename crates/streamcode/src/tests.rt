@@ -1,6 +1,6 @@
 //! Whole runs over objects in memory. What is wanted is written out by hand from the format.
 use super::{End, conclude, lose_is_thinning, one_form, one_numeral, run};
-use sc_outside::{MemoryPort, MemorySink};
+use sc_outside::{MemoryCabinet, MemoryPort, MemorySink};
 use sc_rtpdump::{Dropped, DumpFault};
 use std::alloc::{AllocError, Global};
 use std::test::Fail;
@@ -39,6 +39,11 @@ fn words_of(alloc: Global, line: &str) -> Result<Vec<String>, AllocError> {
     Ok(words)
 }
 
+/// A cabinet without files.
+fn no_files(alloc: Global) -> MemoryCabinet {
+    MemoryCabinet::new(Vec::new(alloc), Vec::new(alloc))
+}
+
 /// What a run answered, gave and told.
 #[derive(Drop)]
 struct Answer {
@@ -61,7 +66,8 @@ fn answer_of(
     let fails = vec![in alloc; fail]?;
     let mut port = MemoryPort::new(alloc, input, room, 1000, 7, fails)?;
     let mut notes = MemorySink::new(alloc, 128, Vec::new(alloc))?;
-    let status = run(alloc, &words, &mut port, &mut notes);
+    let mut cabinet = no_files(alloc);
+    let status = run(alloc, &words, &mut cabinet, &mut port, &mut notes);
     Ok(Answer {
         status,
         given: joined(alloc, &[port.given()])?,
@@ -130,7 +136,11 @@ fn thins_three_thousand_records(rt: HostRuntime) -> Result<(), Fail> {
     let fails = Vec::new(rt.alloc());
     let mut port = MemoryPort::new(rt.alloc(), input, 100_000, 10_000, 65_536, fails)?;
     let mut notes = MemorySink::new(rt.alloc(), 128, Vec::new(rt.alloc()))?;
-    assert_eq!(rt; run(rt.alloc(), &words, &mut port, &mut notes), 0);
+    let mut cabinet = no_files(rt.alloc());
+    assert_eq!(rt;
+        run(rt.alloc(), &words, &mut cabinet, &mut port, &mut notes),
+        0
+    );
     assert!(rt; port.given() == kept.as_slice());
     assert_eq!(rt; notes.given(), b"records 3000 lost 300\n".as_slice());
     Ok(())
@@ -295,7 +305,9 @@ fn generates_many_records(rt: HostRuntime) -> Result<(), Fail> {
         let input = Vec::new(rt.alloc());
         let mut port = MemoryPort::new(rt.alloc(), input, 2_000_000, 1000, 65_536, fails)?;
         let mut notes = MemorySink::new(rt.alloc(), 128, Vec::new(rt.alloc()))?;
-        assert_eq!(rt; run(rt.alloc(), &words, &mut port, &mut notes), status);
+        let mut cabinet = no_files(rt.alloc());
+        let answer = run(rt.alloc(), &words, &mut cabinet, &mut port, &mut notes);
+        assert_eq!(rt; answer, status);
         assert_eq!(rt; port.given().len(), given);
         assert!(rt; port.given().starts_with(PREAMBLE));
         assert_eq!(rt; port.given().ends_with(last), status == 0);

@@ -1,4 +1,4 @@
-use Rattle.std.proofs.Common.{◌≡◌, false, sym, ◌∙◌, arith}
+use Rattle.std.proofs.Common.{sym, ◌∙◌}
 use Rattle.streamcode.proofs.Numbers.{number_none, number_unread, number_within, number_above}
 use Rattle.streamcode.proofs.words.number_word.Goals as goal
 
