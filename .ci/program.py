@@ -3,6 +3,7 @@
 
 What is wanted is worked out from the format alone, by a few lines of another language.
 """
+import json
 import os
 import struct
 import subprocess
@@ -46,6 +47,76 @@ def generated(seed, count, size):
             state = step(state)
         out.append(drawn)
     return b"".join(out)
+
+
+def times(x, y):
+    """The product of GF(256), bit by bit, reduced by x^8 + x^4 + x^3 + x^2 + 1."""
+    product = 0
+    for bit in range(8):
+        if y >> bit & 1:
+            product ^= x << bit
+    for bit in range(14, 7, -1):
+        if product >> bit & 1:
+            product ^= 0x11D << (bit - 8)
+    return product
+
+
+MULTIPLES = [bytes(times(c, x) for x in range(256)) for c in range(256)]
+
+
+def kind(plen, body):
+    """What a record holds, by RFC 3550, 5.1: RTCP where the length is 0, then cut, strange and RTP."""
+    if plen == 0:
+        return "rtcp"
+    if len(body) < plen:
+        return "cut"
+    head = 12 + 4 * (body[0] & 15) if body else 0
+    if len(body) > plen or len(body) < 12 or body[0] >> 6 != 2 or len(body) < head:
+        return "strange"
+    if body[0] & 16:
+        if len(body) < head + 4:
+            return "strange"
+        head += 4 + 4 * int.from_bytes(body[head + 2 : head + 4], "big")
+    if len(body) < head or body[0] & 32 and not 1 <= body[-1] <= len(body) - head:
+        return "strange"
+    return "rtp"
+
+
+def protected(data, code, size):
+    """The preamble and a protected packet for each RTP packet, and for each slot of the deadline; and the note."""
+    k, r, lags, deadline = code["k"], code["r"], code["lags"], code["channel"][3]
+    m = -(-(size + 6) // k)
+    at = data.index(b"\n") + 17
+    out, blocks, counts = [data[:at]], [], dict(rtp=0, rtcp=0, cut=0, strange=0)
+    offset = timestamp = 0
+
+    def put(block, end):
+        blocks.append(block)
+        t = len(blocks) - 1
+        parity = b""
+        for j in range(r):
+            total = 0
+            for lag, rows in enumerate(lags):
+                for i in range(k):
+                    if rows[i][j] and lag <= t:
+                        symbol = blocks[t - lag][i * m : (i + 1) * m]
+                        total ^= int.from_bytes(symbol.translate(MULTIPLES[rows[i][j]]), "big")
+            parity += total.to_bytes(m, "big")
+        packet = struct.pack(">BBHII", 0x80, 96, t % 65536, timestamp, 0x53434431)
+        packet += struct.pack(">2sBBBBHI", b"SC", 1, k, r, end, m, t) + block + parity
+        out.append(struct.pack(">HHI", 8 + len(packet), len(packet), offset) + packet)
+
+    while at < len(data):
+        length, plen, when = struct.unpack(">HHI", data[at : at + 8])
+        body = data[at + 8 : at + length]
+        at += length
+        counts[kind(plen, body)] += 1
+        if kind(plen, body) == "rtp":
+            offset, timestamp = when, int.from_bytes(body[4:8], "big")
+            put((struct.pack(">HI", plen, when) + body).ljust(k * m, b"\0"), 0)
+    for end in range(1, deadline + 1):
+        put(bytes(k * m), end)
+    return b"".join(out), b"slots %d rtcp %d cut %d strange %d\n" % (len(blocks), counts["rtcp"], counts["cut"], counts["strange"])
 
 
 def expect(what, got, wanted):
@@ -105,13 +176,46 @@ with tempfile.TemporaryDirectory() as folder:
     for line in ["gen 42 1 11", "gen 42 1 1473", "gen 42 3999961 12", "gen 18446744073709551616 1 12", "gen 042 1 12", "gen 42 1"]:
         answers(line, line.split(), held(capture), 2, b"", b"usage\n")
 
+    # Protected captures, by the example's code and by one that repeats the block two slots before.
+    def named(name, text):
+        path = os.path.join(folder, name)
+        with open(path, "w") as file:
+            file.write(text)
+        return path
+
+    burst = os.path.join(top, "examples", "burst.json")
+    repeats = named("repeats.json", '{"channel":[3,2,1,2],"k":1,"lags":[[[0]],[[0]],[[1]]],"r":1}')
+    for what, name, size, data in [
+        ("protect", burst, 200, capture),
+        ("protect the widest", burst, 1472, generated(3, 40, 1472)),
+        ("protect an empty capture", repeats, 12, start),
+        ("protect few", repeats, 12, generated(3, 1, 12) + record(b"\x80") + record(b"") + struct.pack(">HHI", 10, 3, 0) + b"ab"),
+    ]:
+        given, note = protected(data, json.load(open(name)), size)
+        answers(what, ["protect", name, str(size)], held(data), 0, given, note)
+    given, note = protected(generated(3, 2, 12), json.load(open(repeats)), 12)
+    longer = generated(3, 2, 12) + generated(3, 1, 13)[44:]
+    answers("a packet over the size", ["protect", repeats, "12"], held(longer), 4, given[: -2 * 68], b"limit size 2 13\n")
+    wide = named("wide.json", json.dumps({"channel": [2, 1, 1, 1], "k": 1, "lags": [[[1] * 63]], "r": 63}))
+    answers("a packet that no record holds", ["protect", wide, "1472"], held(capture), 4, b"", b"limit packet 94616\n")
+    for what, text, note in [
+        ("no JSON", "{", b"code not json\n"),
+        ("no keys", '{"k":1}', b"code shape channel\n"),
+        ("too large", '{"channel":[3,2,1,2],"k":1,"lags":[[[256]]],"r":1}', b"code range lags\n"),
+    ]:
+        answers(what, ["protect", named("other.json", text), "12"], held(capture), 3, b"", note)
+    answers("a long file", ["protect", named("long.json", " " * 4194305), "12"], held(capture), 4, b"", b"code limit 4194305\n")
+    answers("no file", ["protect", os.path.join(folder, "none.json"), "12"], held(capture), 7, b"", b"read fault\n")
+    for line in ["protect x", "protect x 11", "protect x 1473", "protect x 012", "protect x 12 12"]:
+        answers(line, line.split(), held(capture), 2, b"", b"usage\n")
+
     # A folder can't be read, and nothing can be written to a device that is full.
     directory = os.open(folder, os.O_RDONLY)
     answers("a failed read", lose + ["0"], directory, 7, b"", b"read fault\n")
     os.close(directory)
     if os.path.exists("/dev/full"):
         with open("/dev/full", "wb") as full:
-            for words in [lose + [loss], ["gen", "7", "3", "20"]]:
+            for words in [lose + [loss], ["gen", "7", "3", "20"], ["protect", burst, "200"]]:
                 done = run(words, held(capture), stdout=full)
                 expect(f"{words[0]}, a failed write: status", done.returncode, 8)
                 expect(f"{words[0]}, a failed write: note", done.stderr, b"write fault\n")
@@ -121,33 +225,29 @@ with tempfile.TemporaryDirectory() as folder:
     os.symlink(program.encode(), other)
     answers("another name", lose + [loss], held(capture), 0, thinned(capture, loss), note, name=other)
 
-# On a live pipe each record comes out before the next one goes in.
-live = subprocess.Popen([program, *lose, "0" * 5], stdin=subprocess.PIPE, stdout=subprocess.PIPE, stderr=subprocess.PIPE)
-os.set_blocking(live.stdout.fileno(), False)
-came = b""
+# On a live pipe what is due for a record comes out before the next one goes in.
+def streams(what, words, start, pieces, due):
+    live = subprocess.Popen([program, *words], stdin=subprocess.PIPE, stdout=subprocess.PIPE, stderr=subprocess.PIPE)
+    os.set_blocking(live.stdout.fileno(), False)
+    came = b""
+    for count, piece in enumerate([start, *pieces]):
+        live.stdin.write(piece)
+        live.stdin.flush()
+        end = time.monotonic() + 10
+        while len(came) < len(due[count]) and time.monotonic() < end:
+            came += live.stdout.read() or b""
+            time.sleep(0.001)
+        expect(f"{what}, on a live pipe: after {count} records", came, due[count])
+    live.stdin.close()
+    expect(f"{what}, on a live pipe: status", live.wait(timeout=60), 0)
 
 
-def wait_for(count):
-    global came
-    end = time.monotonic() + 10
-    while len(came) < count and time.monotonic() < end:
-        came += live.stdout.read() or b""
-        time.sleep(0.001)
-
-
-sent = start
-live.stdin.write(start)
-live.stdin.flush()
-wait_for(len(sent))
-expect("a live pipe: the preamble", came, sent)
-for i in range(5):
-    piece = record(b"%d" % i)
-    sent += piece
-    live.stdin.write(piece)
-    live.stdin.flush()
-    wait_for(len(sent))
-    expect(f"a live pipe: record {i}", came, sent)
-live.stdin.close()
-expect("a live pipe: status", live.wait(timeout=60), 0)
+records = [record(b"%d" % i) for i in range(5)]
+streams("lose", [*lose, "0" * 5], start, records, [start + b"".join(records[:n]) for n in range(6)])
+whole = generated(7, 5, 172)
+packets = [whole[44 + 180 * i : 44 + 180 * (i + 1)] for i in range(5)]
+slots = [protected(whole[: 44 + 180 * n], json.load(open(burst)), 172)[0] for n in range(6)]
+slot = (len(slots[1]) - len(slots[0]))
+streams("protect", ["protect", burst, "172"], whole[:44], packets, [slots[n][: 44 + slot * n] for n in range(6)])
 
 sys.exit(1 if failed else 0)

@@ -10,7 +10,7 @@ use Rattle.std.specs.Str.{bytes_eq}
 use Rattle.sc_channel.specs.Channel.{ChannelNumbers, IsChannel, is_channel}
 use Rattle.sc_channel.proofs.ChannelLaws.{is_channel-to, is_channel-from}
 use Rattle.sc_channel.specs.declared.flags.TheConstants.{MAX_FLAGS}
-use Rattle.streamcode.specs.Words.{Command, lose_word, generate, number_to, channel_at, channel_of, is_flag, is_lost, is_loss_word, flags_of, lose_at, lose_of, gen_at, gen_of, command_of}
+use Rattle.streamcode.specs.Words.{Command, lose_word, generate, protect, number_to, channel_at, channel_of, is_flag, is_lost, is_loss_word, flags_of, lose_at, lose_of, gen_at, gen_of, protect_at, protect_of, command_of}
 use Rattle.streamcode.specs.Forms.{character_of, words_of, IsWithinLimits}
 use Rattle.streamcode.proofs.Forms.{flags_of-word, flags_of-none}
 use Rattle.streamcode.proofs.Numbers.{number_to-to_decimal, number_to-decimal}
@@ -88,94 +88,111 @@ channel_at-to (Some w) (Some b) None t c is = absurd (cc)
 channel_at-to (Some w) None n t c is = absurd (cc)
 channel_at-to None b n t c is = absurd (cc)
 
-lose_at-to : (o : Option ChannelNumbers) (f : Option (List Bool)) (c : ChannelNumbers) (flags : List Bool) → lose_at o f ≡ Some (lose_word c flags) → (o ≡ Some c) × (f ≡ Some flags)
-lose_at-to (Some d) (Some gs) c flags is = (cc, cc)
-lose_at-to (Some d) None c flags is = absurd (cc)
-lose_at-to None f c flags is = absurd (cc)
+-- Of each command, its words: where they ask for a command, they are its words, and it is within its limits.
+abbrev AreItsWords : List (List ℕ) → Command → Type 0
+AreItsWords words command = (words ≡ words_of command) × IsWithinLimits command
 
-lose_of-to : (words : List (List ℕ)) (c : ChannelNumbers) (flags : List Bool) → lose_of words ≡ Some (lose_word c flags) → (words ≡ decimal c.w ∷ decimal c.b ∷ decimal c.n ∷ decimal c.t ∷ map character_of flags ∷ []) × IsWithinLimits (lose_word c flags)
-lose_of-to [] c flags is = absurd (cc)
-lose_of-to (w ∷ []) c flags is = absurd (cc)
-lose_of-to (w ∷ b ∷ []) c flags is = absurd (cc)
-lose_of-to (w ∷ b ∷ n ∷ []) c flags is = absurd (cc)
-lose_of-to (w ∷ b ∷ n ∷ t ∷ []) c flags is = absurd (cc)
-lose_of-to (w ∷ b ∷ n ∷ t ∷ loss ∷ []) c flags is =
-    let parts = lose_at-to (channel_of w b n t) (flags_of loss) c flags is in
-    let numbers = channel_at-to (number_to 4294967295 w) (number_to 4294967295 b) (number_to 4294967295 n) (number_to 4294967295 t) c parts.0 in
-    let w_text = number_to-to_decimal 4294967295 w c.w (omega arith) numbers.w_is in
-    let b_text = number_to-to_decimal 4294967295 b c.b (omega arith) numbers.b_is in
-    let n_text = number_to-to_decimal 4294967295 n c.n (omega arith) numbers.n_is in
-    let t_text = number_to-to_decimal 4294967295 t c.t (omega arith) numbers.t_is in
-    let loss_text = flags_of-to loss flags parts.1 in
-    (cc, (is_channel-to c numbers.channel, loss_text.1))
-lose_of-to (w ∷ b ∷ n ∷ t ∷ loss ∷ more ∷ rest) c flags is = absurd (cc)
+record LoseParts (o : Option ChannelNumbers) (f : Option (List Bool)) (command : Command) : Type 0 where
+  channel : ChannelNumbers
+  flags : List Bool
+  o_is : o ≡ Some channel
+  f_is : f ≡ Some flags
+  is : lose_word channel flags ≡ command
 
-gen_at-to : (a b c : Option ℕ) (seed count size : ℕ) → gen_at a b c ≡ Some (generate seed count size) → (a ≡ Some seed) × (b ≡ Some count) × (c ≡ Some size) × (12 ≤ size)
-gen_at-to (Some a) (Some b) (Some c) seed count size is =
-    let parts = cond_some (nat_le 12 c) (generate a b c) (generate seed count size) is in
-    let same = parts.1 in
-    (cc, cc, cc, (let c_is : c ≡ size = cc in grind (arith, nat_tests, parts.0)))
-gen_at-to (Some a) (Some b) None seed count size is = absurd (cc)
-gen_at-to (Some a) None c seed count size is = absurd (cc)
-gen_at-to None b c seed count size is = absurd (cc)
+lose_at-to : (o : Option ChannelNumbers) (f : Option (List Bool)) (command : Command) → lose_at o f ≡ Some command → LoseParts o f command
+lose_at-to (Some c) (Some flags) command is = record { channel = c; flags = flags; o_is = refl; f_is = refl; is = cc }
+lose_at-to (Some c) None command is = absurd (cc)
+lose_at-to None f command is = absurd (cc)
 
-gen_of-to : (words : List (List ℕ)) (seed count size : ℕ) → gen_of words ≡ Some (generate seed count size) → (words ≡ decimal seed ∷ decimal count ∷ decimal size ∷ []) × IsWithinLimits (generate seed count size)
-gen_of-to [] seed count size is = absurd (cc)
-gen_of-to (a ∷ []) seed count size is = absurd (cc)
-gen_of-to (a ∷ b ∷ []) seed count size is = absurd (cc)
-gen_of-to (a ∷ b ∷ c ∷ []) seed count size is =
-    let parts = gen_at-to (number_to 18446744073709551615 a) (number_to 3999960 b) (number_to 1472 c) seed count size is in
-    let seed_text = number_to-to_decimal 18446744073709551615 a seed (omega arith) parts.0 in
-    let count_text = number_to-to_decimal 3999960 b count (omega arith) parts.1 in
-    let size_text = number_to-to_decimal 1472 c size (omega arith) parts.2 in
-    (cc, (seed_text.1, count_text.1, parts.3, size_text.1))
-gen_of-to (a ∷ b ∷ c ∷ more ∷ rest) seed count size is = absurd (cc)
+lose_of-to : (words : List (List ℕ)) (command : Command) → lose_of words ≡ Some command → AreItsWords (codes "lose" ∷ words) command
+lose_of-to [] command is = absurd (cc)
+lose_of-to (w ∷ []) command is = absurd (cc)
+lose_of-to (w ∷ b ∷ []) command is = absurd (cc)
+lose_of-to (w ∷ b ∷ n ∷ []) command is = absurd (cc)
+lose_of-to (w ∷ b ∷ n ∷ t ∷ []) command is = absurd (cc)
+lose_of-to (w ∷ b ∷ n ∷ t ∷ loss ∷ []) command is =
+    let parts = lose_at-to (channel_of w b n t) (flags_of loss) command is in
+    let c = parts.channel in
+    let numbers = channel_at-to (number_to 4294967295 w) (number_to 4294967295 b) (number_to 4294967295 n) (number_to 4294967295 t) c parts.o_is in
+    let w_text : w ≡ decimal c.w = (number_to-to_decimal 4294967295 w c.w (omega arith) numbers.w_is).0 in
+    let b_text : b ≡ decimal c.b = (number_to-to_decimal 4294967295 b c.b (omega arith) numbers.b_is).0 in
+    let n_text : n ≡ decimal c.n = (number_to-to_decimal 4294967295 n c.n (omega arith) numbers.n_is).0 in
+    let t_text : t ≡ decimal c.t = (number_to-to_decimal 4294967295 t c.t (omega arith) numbers.t_is).0 in
+    let loss_text = flags_of-to loss parts.flags parts.f_is in
+    let loss_is : loss ≡ map character_of parts.flags = loss_text.0 in
+    subst (AreItsWords (codes "lose" ∷ w ∷ b ∷ n ∷ t ∷ loss ∷ [])) parts.is (cc, (is_channel-to c numbers.channel, loss_text.1))
+lose_of-to (w ∷ b ∷ n ∷ t ∷ loss ∷ more ∷ rest) command is = absurd (cc)
 
--- the words behind a name are those of its own command alone
-lose_at-own : (o : Option ChannelNumbers) (f : Option (List Bool)) (seed count size : ℕ) → lose_at o f ≡ Some (generate seed count size) → ⊥
-lose_at-own (Some d) (Some gs) seed count size is = cc
-lose_at-own (Some d) None seed count size is = cc
-lose_at-own None f seed count size is = cc
+record GenParts (a b c : Option ℕ) (command : Command) : Type 0 where
+  seed : ℕ
+  count : ℕ
+  size : ℕ
+  a_is : a ≡ Some seed
+  b_is : b ≡ Some count
+  c_is : c ≡ Some size
+  least : 12 ≤ size
+  is : generate seed count size ≡ command
 
-lose_of-own : (words : List (List ℕ)) (seed count size : ℕ) → lose_of words ≡ Some (generate seed count size) → ⊥
-lose_of-own [] seed count size is = cc
-lose_of-own (w ∷ []) seed count size is = cc
-lose_of-own (w ∷ b ∷ []) seed count size is = cc
-lose_of-own (w ∷ b ∷ n ∷ []) seed count size is = cc
-lose_of-own (w ∷ b ∷ n ∷ t ∷ []) seed count size is = cc
-lose_of-own (w ∷ b ∷ n ∷ t ∷ loss ∷ []) seed count size is = lose_at-own (channel_of w b n t) (flags_of loss) seed count size is
-lose_of-own (w ∷ b ∷ n ∷ t ∷ loss ∷ more ∷ rest) seed count size is = cc
+gen_at-to : (a b c : Option ℕ) (command : Command) → gen_at a b c ≡ Some command → GenParts a b c command
+gen_at-to (Some a) (Some b) (Some c) command is =
+    let parts = cond_some (nat_le 12 c) (generate a b c) command is in
+    record { seed = a; count = b; size = c; a_is = refl; b_is = refl; c_is = refl; least = grind (arith, nat_tests, parts.0); is = parts.1 }
+gen_at-to (Some a) (Some b) None command is = absurd (cc)
+gen_at-to (Some a) None c command is = absurd (cc)
+gen_at-to None b c command is = absurd (cc)
 
-gen_at-own : (a b c : Option ℕ) (channel : ChannelNumbers) (flags : List Bool) → gen_at a b c ≡ Some (lose_word channel flags) → ⊥
-gen_at-own (Some a) (Some b) (Some c) channel flags is = let parts = cond_some (nat_le 12 c) (generate a b c) (lose_word channel flags) is in let same = parts.1 in cc
-gen_at-own (Some a) (Some b) None channel flags is = cc
-gen_at-own (Some a) None c channel flags is = cc
-gen_at-own None b c channel flags is = cc
+gen_of-to : (words : List (List ℕ)) (command : Command) → gen_of words ≡ Some command → AreItsWords (codes "gen" ∷ words) command
+gen_of-to [] command is = absurd (cc)
+gen_of-to (a ∷ []) command is = absurd (cc)
+gen_of-to (a ∷ b ∷ []) command is = absurd (cc)
+gen_of-to (a ∷ b ∷ c ∷ []) command is =
+    let parts = gen_at-to (number_to 18446744073709551615 a) (number_to 3999960 b) (number_to 1472 c) command is in
+    let seed_text = number_to-to_decimal 18446744073709551615 a parts.seed (omega arith) parts.a_is in
+    let count_text = number_to-to_decimal 3999960 b parts.count (omega arith) parts.b_is in
+    let size_text = number_to-to_decimal 1472 c parts.size (omega arith) parts.c_is in
+    let a_is : a ≡ decimal parts.seed = seed_text.0 in
+    let b_is : b ≡ decimal parts.count = count_text.0 in
+    let c_is : c ≡ decimal parts.size = size_text.0 in
+    subst (AreItsWords (codes "gen" ∷ a ∷ b ∷ c ∷ [])) parts.is (cc, (seed_text.1, count_text.1, parts.least, size_text.1))
+gen_of-to (a ∷ b ∷ c ∷ more ∷ rest) command is = absurd (cc)
 
-gen_of-own : (words : List (List ℕ)) (channel : ChannelNumbers) (flags : List Bool) → gen_of words ≡ Some (lose_word channel flags) → ⊥
-gen_of-own [] channel flags is = cc
-gen_of-own (a ∷ []) channel flags is = cc
-gen_of-own (a ∷ b ∷ []) channel flags is = cc
-gen_of-own (a ∷ b ∷ c ∷ []) channel flags is = gen_at-own (number_to 18446744073709551615 a) (number_to 3999960 b) (number_to 1472 c) channel flags is
-gen_of-own (a ∷ b ∷ c ∷ more ∷ rest) channel flags is = cc
+record ProtectParts (code : List ℕ) (a : Option ℕ) (command : Command) : Type 0 where
+  size : ℕ
+  a_is : a ≡ Some size
+  least : 12 ≤ size
+  is : protect code size ≡ command
 
-named : (name : List ℕ) (words : List (List ℕ)) (command : Command) (lose gen : Bool) → bytes_eq name (codes "lose") ≡ lose → bytes_eq name (codes "gen") ≡ gen
-    → cond lose (lose_of words) (cond gen (gen_of words) None) ≡ Some command → (name ∷ words ≡ words_of command) × IsWithinLimits command
-named name words command false false here there is = absurd (cc)
-named name words (lose_word c flags) true gen here there is =
-    let parts = lose_of-to words c flags is in
-    let name_text = (bytes_eq-Decides name (codes "lose")).0 here in
-    (cc, parts.1)
-named name words (generate seed count size) true gen here there is = absurd (lose_of-own words seed count size is)
-named name words (lose_word c flags) false true here there is = absurd (gen_of-own words c flags is)
-named name words (generate seed count size) false true here there is =
-    let parts = gen_of-to words seed count size is in
-    let name_text = (bytes_eq-Decides name (codes "gen")).0 there in
-    (cc, parts.1)
+protect_at-to : (code : List ℕ) (a : Option ℕ) (command : Command) → protect_at code a ≡ Some command → ProtectParts code a command
+protect_at-to code (Some a) command is =
+    let parts = cond_some (nat_le 12 a) (protect code a) command is in
+    record { size = a; a_is = refl; least = grind (arith, nat_tests, parts.0); is = parts.1 }
+protect_at-to code None command is = absurd (cc)
+
+protect_of-to : (words : List (List ℕ)) (command : Command) → protect_of words ≡ Some command → AreItsWords (codes "protect" ∷ words) command
+protect_of-to [] command is = absurd (cc)
+protect_of-to (code ∷ []) command is = absurd (cc)
+protect_of-to (code ∷ a ∷ []) command is =
+    let parts = protect_at-to code (number_to 1472 a) command is in
+    let size_text = number_to-to_decimal 1472 a parts.size (omega arith) parts.a_is in
+    let a_is : a ≡ decimal parts.size = size_text.0 in
+    subst (AreItsWords (codes "protect" ∷ code ∷ a ∷ [])) parts.is (cc, (parts.least, size_text.1))
+protect_of-to (code ∷ a ∷ more ∷ rest) command is = absurd (cc)
+
+named : (name : List ℕ) (words : List (List ℕ)) (command : Command) (lose gen protect : Bool)
+    → bytes_eq name (codes "lose") ≡ lose → bytes_eq name (codes "gen") ≡ gen → bytes_eq name (codes "protect") ≡ protect
+    → cond lose (lose_of words) (cond gen (gen_of words) (cond protect (protect_of words) None)) ≡ Some command → AreItsWords (name ∷ words) command
+named name words command true gen protect l g p is =
+    subst (λ n. AreItsWords (n ∷ words) command) (sym ((bytes_eq-Decides name (codes "lose")).0 l)) (lose_of-to words command is)
+named name words command false true protect l g p is =
+    subst (λ n. AreItsWords (n ∷ words) command) (sym ((bytes_eq-Decides name (codes "gen")).0 g)) (gen_of-to words command is)
+named name words command false false true l g p is =
+    subst (λ n. AreItsWords (n ∷ words) command) (sym ((bytes_eq-Decides name (codes "protect")).0 p)) (protect_of-to words command is)
+named name words command false false false l g p is = absurd (cc)
 
 pub command_of-to : (words : List (List ℕ)) (command : Command) → command_of words ≡ Some command → (words ≡ words_of command) × IsWithinLimits command
 command_of-to [] command is = absurd (cc)
-command_of-to (name ∷ words) command is = named name words command (bytes_eq name (codes "lose")) (bytes_eq name (codes "gen")) refl refl is
+command_of-to (name ∷ words) command is =
+    named name words command (bytes_eq name (codes "lose")) (bytes_eq name (codes "gen")) (bytes_eq name (codes "protect")) refl refl refl is
 
 channel_of-decimal : (c : ChannelNumbers) → IsChannel c → channel_of (decimal c.w) (decimal c.b) (decimal c.n) (decimal c.t) ≡ Some c
 channel_of-decimal c is =
@@ -195,3 +212,7 @@ command_of-words_of (generate seed count size) within =
     let size_is = number_to-decimal 1472 size (omega arith) within.3 in
     let least : nat_le 12 size ≡ true = grind (arith, nat_tests, within.2) in
     rw (seed_is, count_is, size_is, least) refl
+command_of-words_of (protect code size) within =
+    let size_is = number_to-decimal 1472 size (omega arith) within.1 in
+    let least : nat_le 12 size ≡ true = grind (arith, nat_tests, within.0) in
+    rw (size_is, least) refl

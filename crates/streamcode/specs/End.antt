@@ -7,18 +7,34 @@ use Rattle.sc_rtpdump.specs.declared.fault.DumpFault.TheVariants.{Preamble, Reco
 use Rattle.sc_rtpdump.specs.declared.thin.DropFault.{DropFault}
 use Rattle.sc_rtpdump.specs.declared.thin.DropFault.TheVariants.{Dump, More, Fewer, Write}
 use Rattle.sc_rtpdump.specs.declared.thin.Dropped.{Dropped}
+use Rattle.sc_codefile.specs.declared.fault.Key.{Key}
+use Rattle.sc_codefile.specs.declared.fault.Key.TheVariants.{Whole, Other, Channel, K, Lags, R, Lost, Period, Loss}
+use Rattle.sc_codefile.specs.declared.fault.FileFault.{FileFault}
+use Rattle.sc_codefile.specs.declared.fault.FileFault.TheVariants.{NotJson, Shape, Range, Memory as NoRoom}
+use Rattle.sc_slots.specs.declared.protect.ProtectFault.{ProtectFault}
+use Rattle.sc_slots.specs.declared.protect.ProtectFault.TheVariants.{TooWide, Dump as Unread, TooManyRecords as TooManyRecordsThere, TooLong, TooManySlots as TooManySlotsThere, Write as Unwritten, Memory as NoRoomThere}
+use Rattle.sc_slots.specs.declared.protect.Protected.{Protected as Done}
+use Rattle.streamcode.specs.declared.end.Role.{Role}
+use Rattle.streamcode.specs.declared.end.Role.TheVariants.{Code}
 use Rattle.streamcode.specs.declared.end.End.{End}
-use Rattle.streamcode.specs.declared.end.End.TheVariants.{Generated, Usage, LossRefused, Capture, MoreRecords, FewerRecords, Thinned, ReadFault, WriteFault, NoMemory}
+use Rattle.streamcode.specs.declared.end.End.TheVariants.{Thinned, Generated, Protected, LossRefused, Usage, Capture, MoreRecords, FewerRecords, FileRefused, FileTooLong, PacketTooWide, PacketTooLong, TooManyRecords, TooManySlots, ReadFault, WriteFault, NoMemory}
 
 -- the status with which the program ends
 abbrev pub status_of : End → ℕ
 status_of (Thinned dropped) = 0
 status_of (Generated records) = 0
+status_of (Protected done) = 0
 status_of (LossRefused window) = 1
 status_of Usage = 2
 status_of (Capture fault) = 3
 status_of (MoreRecords flags) = 3
 status_of (FewerRecords flags records) = 3
+status_of (FileRefused role fault) = 3
+status_of (FileTooLong role) = 4
+status_of (PacketTooWide bytes) = 4
+status_of (PacketTooLong index len) = 4
+status_of TooManyRecords = 4
+status_of TooManySlots = 4
 status_of ReadFault = 7
 status_of WriteFault = 8
 status_of NoMemory = 9
@@ -32,15 +48,45 @@ fault_text (Truncated i) = codes "record " ++ decimal i ++ codes " cut"
 fault_text Read = codes "read fault"
 fault_text Memory = codes "no memory"
 
+-- what a file is for, and the key at which it is faulty
+abbrev pub role_text : Role → List ℕ
+role_text Code = codes "code"
+
+abbrev pub key_text : Key → List ℕ
+key_text Whole = codes "whole"
+key_text Other = codes "other"
+key_text Channel = codes "channel"
+key_text K = codes "k"
+key_text Lags = codes "lags"
+key_text R = codes "r"
+key_text Lost = codes "lost"
+key_text Period = codes "period"
+key_text Loss = codes "loss"
+
+-- the text of a fault of a file
+abbrev pub file_text : Role → FileFault → List ℕ
+file_text role NotJson = role_text role ++ codes " not json"
+file_text role (Shape key) = role_text role ++ codes " shape " ++ key_text key
+file_text role (Range key) = role_text role ++ codes " range " ++ key_text key
+file_text role NoRoom = codes "no memory"
+
 -- the text of an end
 abbrev pub text_of : End → List ℕ
 text_of (Thinned dropped) = codes "records " ++ decimal dropped.records ++ codes " lost " ++ decimal dropped.lost
 text_of (Generated records) = codes "records " ++ decimal records
+text_of (Protected done) =
+    codes "slots " ++ decimal done.slots ++ codes " rtcp " ++ decimal done.rtcp ++ codes " cut " ++ decimal done.cut ++ codes " strange " ++ decimal done.strange
 text_of (LossRefused window) = codes "loss refused at window " ++ decimal window
 text_of Usage = codes "usage"
 text_of (Capture fault) = fault_text fault
 text_of (MoreRecords flags) = codes "flags " ++ decimal flags ++ codes " more records"
 text_of (FewerRecords flags records) = codes "flags " ++ decimal flags ++ codes " records " ++ decimal records
+text_of (FileRefused role fault) = file_text role fault
+text_of (FileTooLong role) = role_text role ++ codes " limit 4194305"
+text_of (PacketTooWide bytes) = codes "limit packet " ++ decimal bytes
+text_of (PacketTooLong index len) = codes "limit size " ++ decimal index ++ codes " " ++ decimal len
+text_of TooManyRecords = codes "limit records 8000001"
+text_of TooManySlots = codes "limit slots 4000001"
 text_of ReadFault = codes "read fault"
 text_of WriteFault = codes "write fault"
 text_of NoMemory = codes "no memory"
@@ -69,3 +115,21 @@ end_of_drop flags (Err (Dump fault)) = end_of_dump fault
 end_of_drop flags (Err More) = MoreRecords flags
 end_of_drop flags (Err (Fewer n)) = FewerRecords flags n
 end_of_drop flags (Err Write) = WriteFault
+
+-- the end at a fault of a file
+abbrev pub end_of_file : Role → FileFault → End
+end_of_file role NotJson = FileRefused role NotJson
+end_of_file role (Shape key) = FileRefused role (Shape key)
+end_of_file role (Range key) = FileRefused role (Range key)
+end_of_file role NoRoom = NoMemory
+
+-- the end of protecting a capture
+abbrev pub end_of_protect : Result Done ProtectFault → End
+end_of_protect (Ok done) = Protected done
+end_of_protect (Err (TooWide bytes)) = PacketTooWide bytes
+end_of_protect (Err (Unread fault)) = end_of_dump fault
+end_of_protect (Err TooManyRecordsThere) = TooManyRecords
+end_of_protect (Err (TooLong index len)) = PacketTooLong index len
+end_of_protect (Err TooManySlotsThere) = TooManySlots
+end_of_protect (Err Unwritten) = WriteFault
+end_of_protect (Err NoRoomThere) = NoMemory

@@ -4,10 +4,12 @@ use Rattle.sc_outside.specs.Ends.{Job, only, at_once, told_as}
 use Rattle.sc_channel.specs.Channel.{ChannelNumbers}
 use Rattle.sc_channel.specs.Loss.{bad_window}
 use Rattle.sc_rtpdump.specs.Thin.{thinning}
+use Rattle.sc_code.specs.declared.code.CodeFile.{CodeFile}
+use Rattle.sc_slots.specs.Protected.{protecting}
 use Rattle.sc_trial.specs.Generated.{generated}
 use Rattle.streamcode.specs.declared.end.End.{End}
 use Rattle.streamcode.specs.declared.end.End.TheVariants.{Generated, LossRefused, ReadFault, WriteFault, NoMemory}
-use Rattle.streamcode.specs.End.{end_of_drop}
+use Rattle.streamcode.specs.End.{end_of_drop, end_of_protect}
 
 -- an end that the words decide alone, or the words and the files: nothing is read and nothing given. It may have taken
 -- memory to decide.
@@ -26,6 +28,10 @@ lose_job channel flags = lose_by (bad_window channel flags) flags
 abbrev pub gen_job : ℕ → ℕ → ℕ → Job End
 gen_job seed count size =
     at_once (record { answer = Generated count; text = generated seed count size; at_end = false }) true [] ReadFault WriteFault NoMemory
+
+-- a capture is protected by a code, for packets of at most this size
+abbrev pub protect_job : CodeFile → ℕ → Job End
+protect_job file size = told_as end_of_protect (protecting file size)
 
 -- a job that neither reads nor gives
 pub record IsSilent (job : Job End) : Type 0 where

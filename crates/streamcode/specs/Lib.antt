@@ -4,5 +4,6 @@ pub mod Forms
 pub mod End
 pub mod Jobs
 pub mod Plans
+pub mod Files
 pub mod Runs
 pub mod LoseLaws

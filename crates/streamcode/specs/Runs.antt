@@ -1,5 +1,5 @@
 -- What a run of the program owes by the words of its command line, with one case a command, and how a run ends.
-use Rattle.std.specs.Prelude.{◌≡◌, ◌⊎◌, ℕ, ◌-◌, ◌^◌, ◌<◌, false, Option, Some, None, List, []}
+use Rattle.std.specs.Prelude.{◌≡◌, ◌⊎◌, ℕ, ◌-◌, ◌^◌, ◌<◌, false, Option, Some, None, List, [], ◌∷◌}
 use Rattle.std.specs.Io.KnownBytes.{Appends}
 use Rattle.sc_outside.specs.Cabinet.{CabinetTold}
 use Rattle.sc_outside.specs.Ends.{Due}
@@ -9,21 +9,24 @@ use Rattle.sc_outside.specs.Sink.{SinkTold}
 use Rattle.streamcode.specs.declared.end.End.{End}
 use Rattle.streamcode.specs.declared.end.End.TheVariants.{Usage}
 use Rattle.streamcode.specs.End.{status_of, note_of, IsTold}
-use Rattle.streamcode.specs.Jobs.{refusal, lose_job, gen_job}
+use Rattle.streamcode.specs.Jobs.{refusal, lose_job, gen_job, protect_job}
 use Rattle.streamcode.specs.Plans.{Plan, owes, PlanEnds}
-use Rattle.streamcode.specs.Words.{Command, lose_word, generate, command_of}
+use Rattle.streamcode.specs.Files.{code_plan}
+use Rattle.streamcode.specs.Words.{Command, lose_word, generate, protect, command_of}
 
 -- what is owed by a command
 abbrev pub command_plan : Option Command → Plan
 command_plan None = owes (refusal false Usage)
 command_plan (Some (lose_word channel flags)) = owes (lose_job channel flags)
 command_plan (Some (generate seed count size)) = owes (gen_job seed count size)
+command_plan (Some (protect code size)) = code_plan code (λ file. owes (protect_job file size))
 
 -- the files that a command names, in the order of its words
 abbrev pub files_of : Option Command → List (List ℕ)
 files_of None = []
 files_of (Some (lose_word channel flags)) = []
 files_of (Some (generate seed count size)) = []
+files_of (Some (protect code size)) = code ∷ []
 
 -- what is owed by these words
 abbrev pub plan_of : List (List ℕ) → Plan

@@ -50,6 +50,7 @@ flags_of word = if is_loss_word word then Some (map is_lost word) else None
 pub data Command : Type 0 where
   lose_word : ChannelNumbers → List Bool → Command
   generate : ℕ → ℕ → ℕ → Command
+  protect : List ℕ → ℕ → Command
 
 -- the command that a channel and flags ask for, where both are there
 abbrev pub lose_at : Option ChannelNumbers → Option (List Bool) → Option Command
@@ -72,12 +73,23 @@ gen_of (seed ∷ count ∷ size ∷ []) =
     gen_at (number_to 18446744073709551615 seed) (number_to 3999960 count) (number_to 1472 size)
 gen_of _ = None
 
+-- the command that a file's name and a size of at least 12 ask for
+abbrev pub protect_at : List ℕ → Option ℕ → Option Command
+protect_at code (Some size) = if nat_le 12 size then Some (protect code size) else None
+protect_at code None = None
+
+-- CODE SIZE
+abbrev pub protect_of : List (List ℕ) → Option Command
+protect_of (code ∷ size ∷ []) = protect_at code (number_to 1472 size)
+protect_of _ = None
+
 -- the command whose form the words have: its name, then its words
 abbrev pub command_of : List (List ℕ) → Option Command
 command_of [] = None
 command_of (name ∷ words) =
     if bytes_eq name (codes "lose") then lose_of words
-    else (if bytes_eq name (codes "gen") then gen_of words else None)
+    else (if bytes_eq name (codes "gen") then gen_of words
+    else (if bytes_eq name (codes "protect") then protect_of words else None))
 
 -- the bytes of each word
 abbrev pub texts : {A : Type 0} → List (String A) → List (List ℕ)

@@ -1,8 +1,17 @@
 //! How a run ends: its status, its note, and the ends of the layers' faults.
 ghost use Rattle.std.specs.Prelude.{◌≡◌};
-ghost use Rattle.streamcode.specs.End.{status_of, end_of_dump, end_of_drop};
+ghost use Rattle.streamcode.specs.End.{status_of, end_of_dump, end_of_drop, end_of_file, end_of_protect};
 
+use sc_codefile::FileFault;
 use sc_rtpdump::{DropFault, Dropped, DumpFault};
+use sc_slots::{ProtectFault, Protected};
+
+/// What a file is for.
+#[derive(Clone, Copy, Debug, PartialEq, Eq)]
+pub enum Role {
+    /// A code, with its channel.
+    Code,
+}
 
 /// How a run ends, by its cause. Commands share the ends that they have in common.
 #[derive(Clone, Copy, Debug, PartialEq, Eq)]
@@ -11,6 +20,8 @@ pub enum End {
     Thinned(Dropped),
     /// A capture of so many records was generated.
     Generated(u32),
+    /// The capture was protected.
+    Protected(Protected),
     /// The loss isn't admissible: this window of it is the first that isn't fine.
     LossRefused(usize),
     /// The words have no form.
@@ -21,7 +32,19 @@ pub enum End {
     MoreRecords(u32),
     /// The loss has so many flags, and the capture so many records, which are fewer.
     FewerRecords(u32, u32),
-    /// A read of the input failed.
+    /// A file isn't of its form.
+    FileRefused(Role, FileFault),
+    /// A file has more bytes than the limit.
+    FileTooLong(Role),
+    /// A protected packet would have so many bytes, which are too many.
+    PacketTooWide(u32),
+    /// The RTP packet of the record with this index has so many bytes, which are more than the size.
+    PacketTooLong(u32, u32),
+    /// The capture has more records than the limit.
+    TooManyRecords,
+    /// The capture has more RTP records than a protected capture has slots for.
+    TooManySlots,
+    /// A read of the input failed, or a file wasn't fetched.
     ReadFault,
     /// A write of the output failed.
     WriteFault,
@@ -30,16 +53,19 @@ pub enum End {
 }
 
 impl End {
-    /// The status with which the program ends: 0 done, 1 refused by the loss, 2 no form of words, 3 refused by the
-    /// input, 7 a read failed, 8 a write failed, 9 no memory.
+    /// The status with which the program ends: 0 done, 1 refused by the loss, 2 no form of words, 3 refused by a file or
+    /// the input, 4 beyond a limit, 7 a read or a fetch failed, 8 a write failed, 9 no memory.
     pub fn status(&self) -> u8
         ensures { result ≡ status_of self.now }
     {
         match self {
-            End::Thinned(_) | End::Generated(_) => 0,
+            End::Thinned(_) | End::Generated(_) | End::Protected(_) => 0,
             End::LossRefused(_) => 1,
             End::Usage => 2,
             End::Capture(_) | End::MoreRecords(_) | End::FewerRecords(_, _) => 3,
+            End::FileRefused(_, _) => 3,
+            End::FileTooLong(_) | End::PacketTooWide(_) | End::PacketTooLong(_, _) => 4,
+            End::TooManyRecords | End::TooManySlots => 4,
             End::ReadFault => 7,
             End::WriteFault => 8,
             End::NoMemory => 9,
@@ -56,6 +82,32 @@ impl End {
             Err(DropFault::More) => End::MoreRecords(flags),
             Err(DropFault::Fewer(records)) => End::FewerRecords(flags, records),
             Err(DropFault::Write) => End::WriteFault,
+        }
+    }
+
+    /// The end at a fault of a file.
+    pub fn of_file(role: Role, fault: FileFault) -> End
+        ensures { result ≡ end_of_file role fault }
+    {
+        match fault {
+            FileFault::Memory => End::NoMemory,
+            other => End::FileRefused(role, other),
+        }
+    }
+
+    /// The end of protecting a capture.
+    pub fn of_protect(outcome: Result<Protected, ProtectFault>) -> End
+        ensures { result ≡ end_of_protect outcome }
+    {
+        match outcome {
+            Ok(done) => End::Protected(done),
+            Err(ProtectFault::TooWide(bytes)) => End::PacketTooWide(bytes),
+            Err(ProtectFault::Dump(fault)) => End::from(fault),
+            Err(ProtectFault::TooManyRecords) => End::TooManyRecords,
+            Err(ProtectFault::TooLong { index, length }) => End::PacketTooLong(index, length),
+            Err(ProtectFault::TooManySlots) => End::TooManySlots,
+            Err(ProtectFault::Write) => End::WriteFault,
+            Err(ProtectFault::Memory) => End::NoMemory,
         }
     }
 }

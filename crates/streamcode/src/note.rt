@@ -1,12 +1,14 @@
 //! The note at the end of a run, written into a fixed array: it takes no memory.
 ghost use Rattle.std.specs.Prelude.{◌≡◌, ◌+◌, ◌≤◌, ◌++◌, length, decimal};
-ghost use Rattle.streamcode.specs.End.{status_of, fault_text, text_of, note_of, IsTold};
+ghost use Rattle.streamcode.specs.End.{status_of, fault_text, role_text, key_text, file_text, text_of, note_of, IsTold};
 
-use crate::end::End;
+use crate::end::{End, Role};
 use arrayvec::ArrayString;
 use itoa::Buffer;
+use sc_codefile::{FileFault, Key};
 use sc_outside::{Failed, Sink, tell_whole};
-use sc_rtpdump::DumpFault;
+use sc_rtpdump::{Dropped, DumpFault};
+use sc_slots::Protected;
 
 /// The room for a note, in bytes.
 const ROOM: usize = 128;
@@ -69,17 +71,81 @@ fn fault_note(fault: &DumpFault) -> Note
     }
 }
 
+/// What a file is for.
+fn role_word(role: Role) -> &'static str
+    ensures { result.now ≡ role_text role }
+{
+    match role {
+        Role::Code => "code",
+    }
+}
+
+/// The key at which a file is faulty.
+fn key_word(key: &Key) -> &'static str
+    ensures text { result.now ≡ key_text key.now }
+    ensures short { length result.now ≤ 7 }
+{
+    match key {
+        Key::Whole => "whole",
+        Key::Other => "other",
+        Key::Channel => "channel",
+        Key::K => "k",
+        Key::Lags => "lags",
+        Key::R => "r",
+        Key::Lost => "lost",
+        Key::Period => "period",
+        Key::Loss => "loss",
+    }
+}
+
+/// The text of a fault of a file.
+fn file_note(role: Role, fault: &FileFault) -> Note
+    ensures text { result.text.bytes ≡ file_text role fault.now }
+    ensures short { length result.text.bytes ≤ 100 }
+{
+    match fault {
+        FileFault::NotJson => Note::of(role_word(role)).word(" not json"),
+        FileFault::Shape(key) => Note::of(role_word(role)).word(" shape ").word(key_word(key)),
+        FileFault::Range(key) => Note::of(role_word(role)).word(" range ").word(key_word(key)),
+        FileFault::Memory => Note::of("no memory"),
+    }
+}
+
+/// The text of what thinning did.
+fn thinned_note(dropped: &Dropped) -> Note
+    ensures text { result.text.bytes ≡ text_of (End.Thinned dropped.now) }
+    ensures short { length result.text.bytes ≤ 100 }
+{
+    Note::of("records ")
+        .number(dropped.records.into())
+        .word(" lost ")
+        .number(dropped.lost.into())
+}
+
+/// The text of what protecting did.
+fn protected_note(done: &Protected) -> Note
+    ensures text { result.text.bytes ≡ text_of (End.Protected done.now) }
+    ensures short { length result.text.bytes ≤ 110 }
+{
+    Note::of("slots ")
+        .number(done.slots.into())
+        .word(" rtcp ")
+        .number(done.rtcp.into())
+        .word(" cut ")
+        .number(done.cut.into())
+        .word(" strange ")
+        .number(done.strange.into())
+}
+
 /// The text of an end.
 fn end_note(end: &End) -> Note
     ensures text { result.text.bytes ≡ text_of end.now }
-    ensures short { length result.text.bytes ≤ 100 }
+    ensures short { length result.text.bytes ≤ 110 }
 {
     match end {
-        End::Thinned(dropped) => Note::of("records ")
-            .number(dropped.records.into())
-            .word(" lost ")
-            .number(dropped.lost.into()),
+        End::Thinned(dropped) => thinned_note(dropped),
         End::Generated(records) => Note::of("records ").number((*records).into()),
+        End::Protected(done) => protected_note(done),
         End::LossRefused(window) => Note::of("loss refused at window ").number(*window as u64),
         End::Usage => Note::of("usage"),
         End::Capture(fault) => fault_note(fault),
@@ -90,6 +156,15 @@ fn end_note(end: &End) -> Note
             .number((*flags).into())
             .word(" records ")
             .number((*records).into()),
+        End::FileRefused(role, fault) => file_note(*role, fault),
+        End::FileTooLong(role) => Note::of(role_word(*role)).word(" limit 4194305"),
+        End::PacketTooWide(bytes) => Note::of("limit packet ").number((*bytes).into()),
+        End::PacketTooLong(index, length) => Note::of("limit size ")
+            .number((*index).into())
+            .word(" ")
+            .number((*length).into()),
+        End::TooManyRecords => Note::of("limit records 8000001"),
+        End::TooManySlots => Note::of("limit slots 4000001"),
         End::ReadFault => Note::of("read fault"),
         End::WriteFault => Note::of("write fault"),
         End::NoMemory => Note::of("no memory"),

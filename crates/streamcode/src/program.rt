@@ -11,6 +11,7 @@ use crate::end::End;
 use crate::generate::generate;
 use crate::lose::lose;
 use crate::note::conclude;
+use crate::protect::protect;
 use crate::words::{Command, read_words};
 use sc_outside::{Cabinet, Port, Sink};
 use std::alloc::Global;
@@ -29,6 +30,7 @@ fn perform<C: Cabinet, P: Port>(
     match command {
         Command::LoseWord { channel, flags } => lose(alloc, channel, flags, port),
         Command::Gen { seed, count, size } => generate(alloc, seed, count, size, port),
+        Command::Protect { code, size } => protect(alloc, code, size, cabinet, port),
     }
 }
 

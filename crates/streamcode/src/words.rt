@@ -2,7 +2,7 @@
 
 ghost use Rattle.std.specs.Prelude.{◌≡◌, ◌≤◌, true, Some, IfOk, IfSome, map};
 ghost use Rattle.std.specs.Option.{option_map};
-ghost use Rattle.streamcode.specs.Words.{number_to, begins_plain, channel_of, is_lost, flags_of, is_loss_word, lose_of, gen_of, command_of, texts};
+ghost use Rattle.streamcode.specs.Words.{number_to, begins_plain, channel_of, is_lost, flags_of, is_loss_word, lose_of, gen_of, protect_of, command_of, texts};
 ghost use Rattle.streamcode.specs.Command.{meaning, HasItsForms};
 
 use sc_channel::{Channel, Flags, MAX_FLAGS};
@@ -29,14 +29,22 @@ pub enum Command<'a> {
         /// The size of each packet in bytes: 12 to 1,472.
         size: u16,
     },
+    /// `protect CODE SIZE`: protect a capture by a code.
+    Protect {
+        /// The name of the code's file.
+        code: &'a str,
+        /// The greatest size of an RTP packet in bytes: 12 to 1,472.
+        size: u16,
+    },
 }
 
 /// The command whose form the words have, the command's name first, and `None` exactly where they
 /// have no form. It takes no memory.
 ///
-/// The forms are `lose W B N T LOSSWORD` and `gen SEED COUNT SIZE`. Numbers are decimal, without sign and without a
-/// leading zero. W, B, N and T are a channel; the loss word is 0 to 4,000,000 characters `0` and `1`. The seed has at most
-/// 64 bits, the count is at most 3,999,960, and the size 12 to 1,472. The forms are of this project.
+/// The forms are `lose W B N T LOSSWORD`, `gen SEED COUNT SIZE` and `protect CODE SIZE`. Numbers are decimal, without sign
+/// and without a leading zero. W, B, N and T are a channel; the loss word is 0 to 4,000,000 characters `0` and `1`. The seed
+/// has at most 64 bits, the count is at most 3,999,960, and a size is 12 to 1,472. A file's name is any word. The forms are
+/// of this project.
 pub fn read_words(words: &Vec<String>) -> Option<Command<'_>>
     ensures command { command_of (texts words.now.items) ≡ option_map meaning result }
     ensures forms { IfSome result HasItsForms }
@@ -44,6 +52,7 @@ pub fn read_words(words: &Vec<String>) -> Option<Command<'_>>
     match words.as_slice() {
         [name, rest @ ..] if name.as_str() == "lose" => read_lose(rest),
         [name, rest @ ..] if name.as_str() == "gen" => read_gen(rest),
+        [name, rest @ ..] if name.as_str() == "protect" => read_protect(rest),
         _ => None,
     }
 }
@@ -92,6 +101,25 @@ fn read_gen(words: &[String]) -> Option<Command<'_>>
             let size = number_word(size.as_str(), MAX_SIZE.into())? as u16;
             if MIN_SIZE <= size {
                 Some(Command::Gen { seed, count, size })
+            } else {
+                None
+            }
+        }
+        _ => None,
+    }
+}
+
+/// The words after `protect`.
+fn read_protect(words: &[String]) -> Option<Command<'_>>
+    ensures command { protect_of (texts words.now) ≡ option_map meaning result }
+    ensures forms { IfSome result HasItsForms }
+{
+    match words {
+        [code, size] => {
+            let size = number_word(size.as_str(), MAX_SIZE.into())? as u16;
+            if MIN_SIZE <= size {
+                let code = code.as_str();
+                Some(Command::Protect { code, size })
             } else {
                 None
             }
