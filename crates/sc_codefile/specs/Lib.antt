@@ -1,0 +1,5 @@
+pub mod Value
+pub mod Fault
+pub mod CodeFile
+pub mod CodeText
+pub mod Numbers
