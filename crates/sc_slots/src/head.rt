@@ -1,0 +1,1 @@
+//! The first 24 bytes of a protected packet.

@@ -1,0 +1,72 @@
+//! Protected packets: how a slot stands in an RTP packet and in a record of a capture.
+ghost use Rattle.std.specs.Prelude.{◌≡◌, ◌+◌, ◌≤◌, ◌++◌, OnOk, OnErr};
+ghost use Rattle.sc_outside.specs.Whole.{PutsAll, WriteFailed};
+ghost use Rattle.sc_slots.specs.Slot.{FitsPacket, ReadsAs, SlotIsWellShaped, slot_bytes};
+ghost use Rattle.sc_slots.specs.Answers.{reading, slot_in};
+
+/// A slot of a protected capture: a block of `k` symbols and its parity of `r` symbols, of `m` bytes each, symbol after
+/// symbol.
+#[derive(Clone, Copy, Debug, PartialEq, Eq)]
+pub struct Slot<'a> {
+    /// The slot's number, from 0.
+    pub number: u32,
+    /// 0 for a source slot; for the slots that flush the last blocks out, from 1 on.
+    pub end: u8,
+    /// The bytes of a symbol.
+    pub m: u16,
+    /// The RTP timestamp.
+    pub timestamp: u32,
+    /// The block, of `k * m` bytes.
+    pub block: &'a [u8],
+    /// The parity, of `r * m` bytes.
+    pub parity: &'a [u8],
+}
+
+/// What a record is for a code: the first of `Stranger`, `WrongCode` and `BadShape` that holds, and else a slot.
+#[derive(Clone, Copy, Debug, PartialEq, Eq)]
+pub enum SlotReading<'a> {
+    /// The record of a slot.
+    Slot(Slot<'a>),
+    /// No protected packet: the record isn't of kind `Rtp`, or the packet has fewer than 24 bytes, or a byte of the first
+    /// two, the SSRC, the magic or the version is another.
+    Stranger,
+    /// A protected packet of a code with another `k` or `r`.
+    WrongCode,
+    /// A protected packet with `m` of 0, of another length than 24 bytes and `k + r` symbols, with a sequence number that
+    /// isn't the slot's number in 16 bits, with an end above the deadline or above the slot's number plus 1, or with an
+    /// end that isn't 0 and a block that isn't zero.
+    BadShape,
+}
+
+/// The first 32 bytes of the record of a slot: the record's eight bytes before the packet, and the packet's first 24. The
+/// block and the parity follow them. `offset` is the record's, in milliseconds. It takes no memory.
+pub fn slot_head(offset: u32, slot: &Slot<'_>, k: usize, r: usize) -> [u8; 32]
+    requires symbols { k + r ≤ 64 }
+    requires packet { FitsPacket k r (slot_in slot.now) }
+    ensures { result ++ (slot.now.block.now ++ slot.now.parity.now) ≡ slot_bytes k r offset (slot_in slot.now) }
+{
+}
+
+/// Writes the record of a slot, whose packet is whole. `offset` is the record's, in milliseconds. After `Failed` a prefix of
+/// the record that isn't the whole was written. It takes no memory.
+pub fn write_slot<P: Port>(
+    port: &mut P,
+    offset: u32,
+    slot: &Slot<'_>,
+    k: usize,
+    r: usize,
+) -> Result<(), Failed>
+    requires symbols { k + r ≤ 64 }
+    requires packet { FitsPacket k r (slot_in slot.now) }
+    ensures ok { OnOk result (PutsAll (P.told port.old) (P.told port.new) (slot_bytes k r offset (slot_in slot.now))) }
+    ensures err { OnErr result (WriteFailed (P.told port.old) (P.told port.new) (slot_bytes k r offset (slot_in slot.now))) }
+{
+}
+
+/// Reads a record as a slot of a code with `k` and `r` and of a channel with this deadline. The RTP timestamp isn't tested.
+/// It takes no memory.
+pub fn read_slot<'a>(rec: &'a DumpRecord, k: usize, r: usize, deadline: u32) -> SlotReading<'a>
+    ensures reads { ReadsAs k r deadline rec.now (reading result) }
+    ensures slot { SlotIsWellShaped k r deadline rec.now (reading result) }
+{
+}
