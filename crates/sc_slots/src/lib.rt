@@ -3,11 +3,13 @@
 #![tactic(auto)]
 
 mod blank;
-mod frame;
+mod framing;
 mod head;
 mod laws;
 mod slot;
+mod unframing;
 
-pub use frame::{BadBlock, Frame, frame, unframe, width};
+pub use framing::{frame, width};
 pub use laws::{one_frame, one_slot};
 pub use slot::{Slot, SlotReading, read_slot, slot_head, write_slot};
+pub use unframing::{BadBlock, Frame, unframe};
