@@ -1,1 +1,4 @@
-
+pub mod BlankLaws
+pub mod FrameLaws
+pub mod HeadLaws
+pub mod SlotLaws

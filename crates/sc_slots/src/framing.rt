@@ -1,5 +1,5 @@
 //! Writing frames: how a packet and the offset of its record stand in a block.
-ghost use Rattle.std.specs.Prelude.{◌≡◌, ◌+◌, ◌≤◌, ◌++◌, length};
+ghost use Rattle.std.specs.Prelude.{◌≡◌, ◌+◌, ◌-◌, ◌≤◌, ◌++◌, length, replicate};
 ghost use Rattle.std.specs.Int.{w16, w32, to_be_bytes};
 ghost use Rattle.sc_slots.specs.Frame.{IsFrame, IsWidth, frame_bytes, width_of};
 
@@ -25,6 +25,16 @@ fn front_of(len: u16, offset: u32) -> [u8; FRONT]
     [len[0], len[1], offset[0], offset[1], offset[2], offset[3]]
 }
 
+/// Writes a packet over the front of a slice, and zeros over the rest.
+fn write_padded(body: &mut [u8], packet: &[u8])
+    requires { length packet.now ≤ length body.old }
+    ensures { body.new ≡ packet.now ++ replicate (length body.old - length packet.now) 0 }
+{
+    let (front, rest) = body.split_at_mut(packet.len());
+    front.copy_from_slice(packet);
+    rest.fill(0);
+}
+
 /// Writes the frame of a packet over a block: two bytes of the packet's length, four of the offset of its record in
 /// milliseconds, the packet, and zeros up to the block's end. It takes no memory.
 pub fn frame(offset: u32, packet: &[u8], block: &mut [u8])
@@ -34,8 +44,8 @@ pub fn frame(offset: u32, packet: &[u8], block: &mut [u8])
     ensures bytes { block.new ≡ frame_bytes offset packet.now (length block.old) }
     ensures frame { IsFrame block.new offset packet.now }
 {
-    let end = FRONT + packet.len();
-    block[..FRONT].copy_from_slice(&front_of(packet.len() as u16, offset));
-    block[FRONT..end].copy_from_slice(packet);
-    block[end..].fill(0);
+    let head = front_of(packet.len() as u16, offset);
+    let (front, body) = block.split_at_mut(FRONT);
+    front.copy_from_slice(&head);
+    write_padded(body, packet);
 }

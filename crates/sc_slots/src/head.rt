@@ -54,9 +54,11 @@ impl SlotHead {
     {
         let mut rtp = [0; 12];
         write_head(&mut rtp, PAYLOAD_TYPE, self.sequence, self.timestamp, SSRC);
+        let last = self.last_bytes();
         let mut bytes = [0; HEAD];
-        bytes[..12].copy_from_slice(&rtp);
-        bytes[12..].copy_from_slice(&self.last_bytes());
+        let (front, back) = bytes.split_at_mut(12);
+        front.copy_from_slice(&rtp);
+        back.copy_from_slice(&last);
         bytes
     }
 

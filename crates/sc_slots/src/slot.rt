@@ -64,9 +64,12 @@ pub fn slot_head(offset: u32, slot: &Slot<'_>, k: usize, r: usize) -> [u8; 32]
         m: slot.m,
         number: slot.number,
     };
+    let record = record.to_bytes();
+    let packet = packet.to_bytes();
     let mut bytes = [0; 32];
-    bytes[..8].copy_from_slice(&record.to_bytes());
-    bytes[8..].copy_from_slice(&packet.to_bytes());
+    let (front, back) = bytes.split_at_mut(8);
+    front.copy_from_slice(&record);
+    back.copy_from_slice(&packet);
     bytes
 }
 

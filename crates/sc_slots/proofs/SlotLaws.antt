@@ -1,0 +1,2 @@
+-- Protected packets and what they are read as.
+use Rattle.std.proofs.Common.{◌≡◌, ℕ, List}
