@@ -1,7 +1,11 @@
 -- Bytes that are all zero.
-use Rattle.std.proofs.Common.{◌≡◌, ℕ, zero, suc, ◌<◌, ◌⊎◌, inl, inr, List, [], ◌∷◌, length, drop, replicate, get_or, refl, sym, ap, ◌∙◌, arith}
+use Rattle.std.proofs.Common.{◌≡◌, ℕ, zero, suc, ◌+◌, ◌<◌, below_more, nat_eq, ◌⊎◌, inl, inr, List, [], ◌∷◌, length, drop, replicate, get_or, refl, sym, ap, ◌∙◌, arith}
+use Rattle.std.proofs.lemmas.Bool.{cases_Bool, eqb-true, eqb-false}
+use Rattle.std.proofs.lemmas.Nat.{le_or_l, le_or_r}
 use Rattle.std.proofs.lemmas.List.{length-replicate, get_or-replicate}
 use Rattle.std.proofs.lemmas.Grind.{same_number_lists}
+use Rattle.std.specs.Bool.{MatchBool}
+use Rattle.std.specs.Int.RustNames.{bit_or}
 use Rattle.sc_slots.specs.Frame.{IsBlank}
 
 -- as many zeros as there are
@@ -25,3 +29,27 @@ blank_or_not (suc x ∷ xs) = inr (λ e. let first : suc x ≡ 0 = ap (λ (l : L
 
 pub blank-stable : (xs : List ℕ) → ((IsBlank xs → ⊥) → ⊥) → IsBlank xs
 blank-stable xs wrong = elim (blank_or_not xs) [ inl e ↦ e | inr n ↦ absurd (wrong n) ]
+
+-- ---- looking at them one by one
+
+-- no bit is set exactly where each of the first i is 0
+abbrev pub NoneSet : List ℕ → ℕ → ℕ → Type 0
+NoneSet xs bits i = (bits ≡ 0 → (k : ℕ) → k < i → get_or xs k 0 ≡ 0) × (((k : ℕ) → k < i → get_or xs k 0 ≡ 0) → bits ≡ 0)
+
+pub none_set-more : (xs : List ℕ) (bits i : ℕ) → NoneSet xs bits i → NoneSet xs (bit_or bits (get_or xs i 0)) (i + 1)
+none_set-more xs bits i inv = (
+  λ none.
+      let a : bits ≡ 0 = omega (arith, none, le_or_l bits (get_or xs i 0)) in
+      let b : get_or xs i 0 ≡ 0 = omega (arith, none, le_or_r bits (get_or xs i 0)) in
+      below_more (λ (k : ℕ). get_or xs k 0 ≡ 0) i (inv.0 a) b,
+  λ each.
+      let a : bits ≡ 0 = inv.1 (λ k small. each k (omega (arith, small))) in
+      let b : get_or xs i 0 ≡ 0 = each i (omega arith) in
+      ap (λ (n : ℕ). bit_or n (get_or xs i 0)) a ∙ ap (λ (n : ℕ). bit_or 0 n) b,
+)
+
+pub none_set-all : (xs : List ℕ) (bits i : ℕ) → i ≡ length xs → NoneSet xs bits i → MatchBool (nat_eq bits 0) (IsBlank xs) (IsBlank xs → ⊥)
+none_set-all xs bits i all inv = elim (cases_Bool (nat_eq bits 0)) [
+  | inl t ↦ rw t (blank-each xs (λ k small. inv.0 (eqb-true bits 0 t) k (omega (arith, small, all))))
+  | inr f ↦ rw f (λ e. eqb-false bits 0 f (inv.1 (λ k small. each-blank xs k e (omega (arith, small, all)))))
+]

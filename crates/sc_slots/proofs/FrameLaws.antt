@@ -52,6 +52,16 @@ frame-there offset packet len small some fits room =
       spelled = ap (frame_bytes offset packet) (sym long);
     }
 
+-- what is written over a block
+pub frame-written : (offset : ℕ) (packet front body : List ℕ) (back len : ℕ) → front ≡ to_be_bytes w16 (length packet) ++ to_be_bytes w32 offset
+    → body ≡ packet ++ replicate (back - length packet) 0 → 6 + back ≡ len → front ++ body ≡ frame_bytes offset packet len
+unfolding frame_bytes
+frame-written offset packet front body back len is_front is_body size =
+    let left : back - length packet ≡ len - (6 + length packet) = omega (arith, size) in
+    ap (λ (l : List ℕ). l ++ body) is_front
+    ∙ ap (λ (l : List ℕ). to_be_bytes w16 (length packet) ++ (to_be_bytes w32 offset ++ l)) is_body
+    ∙ ap (λ (n : ℕ). to_be_bytes w16 (length packet) ++ (to_be_bytes w32 offset ++ (packet ++ replicate n 0))) left
+
 -- ---- what is read
 
 frame-length : (block : List ℕ) (offset : ℕ) (packet : List ℕ) → IsFrame block offset packet → length_in block ≡ length packet

@@ -1,5 +1,5 @@
 -- The head of a protected packet, and the 24 bytes that spell it.
-use Rattle.std.proofs.Common.{◌≡◌, ℕ, ◌%◌, ◌^◌, ◌<◌, ◌≤◌, List, [], ◌∷◌, ◌++◌, length, take, drop, get_or, codes, refl, sym, ap, ◌∙◌, arith, length-append}
+use Rattle.std.proofs.Common.{◌≡◌, ℕ, ◌+◌, ◌%◌, ◌^◌, ◌<◌, ◌≤◌, List, [], ◌∷◌, ◌++◌, length, take, drop, get_or, codes, refl, sym, ap, ◌∙◌, arith, length-append}
 use Rattle.std.proofs.lemmas.Nat.{from_be_bytes-to_be_bytes_2, from_be_bytes-to_be_bytes_4}
 use Rattle.std.specs.Int.{w16, w32, to_be_bytes}
 use Rattle.sc_rtp.specs.Reading.{AreBytes}
@@ -15,8 +15,9 @@ mark_bytes = 83 ∷ 67 ∷ 68 ∷ 49 ∷ 83 ∷ 67 ∷ 1 ∷ []
 
 -- ---- what is spelled is read
 
-same_head : (s t k r e m n : ℕ) (h : SlotHead) → s ≡ h.sequence → t ≡ h.timestamp → k ≡ h.k → r ≡ h.r → e ≡ h.end → m ≡ h.m → n ≡ h.number
-    → (let g : SlotHead = record { sequence = s; timestamp = t; k = k; r = r; end = e; m = m; number = n } in g) ≡ h
+pub same_head : (s t k r e m n : ℕ) (h : SlotHead) → s ≡ h.sequence → t ≡ h.timestamp → k ≡ h.k → r ≡ h.r → e ≡ h.end → m ≡ h.m → n ≡ h.number
+    → (let g : SlotHead = record { sequence = s; timestamp = t; k = k; r = r; end = e; m = m; number = n } in g)
+    ≡ record { sequence = h.sequence; timestamp = h.timestamp; k = h.k; r = h.r; end = h.end; m = h.m; number = h.number }
 same_head s t k r e m n h a b c d f i j = cc
 
 pub slot_head_of-spelled : (h : SlotHead) (rest : List ℕ) → FitsFields h → slot_head_of (slot_head_bytes h ++ rest) ≡ h
@@ -71,7 +72,7 @@ slot_head_of-fits bytes are = record {
 }
 
 -- the first 24 of bytes
-parts : List ℕ → List ℕ → List ℕ → List ℕ → List ℕ → List ℕ → List ℕ → List ℕ → List ℕ → List ℕ
+parts : List ℕ → List ℕ → List ℕ → List ℕ → List ℕ → List ℕ → List ℕ → List ℕ → List ℕ → List ℕ → List ℕ
 parts first sequence timestamp marks k r e m number rest =
     first ++ (sequence ++ (timestamp ++ (marks ++ (k ++ (r ++ (e ++ (m ++ (number ++ rest))))))))
 
