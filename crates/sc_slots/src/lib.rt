@@ -13,3 +13,6 @@ pub use framing::{frame, width};
 pub use laws::{one_frame, one_slot};
 pub use slot::{Slot, SlotReading, read_slot, slot_head, write_slot};
 pub use unframing::{BadBlock, Frame, unframe};
+
+#[cfg(test)]
+mod tests;
