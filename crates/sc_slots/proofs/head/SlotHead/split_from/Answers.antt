@@ -22,6 +22,6 @@ returns-clause-some c =
     let same = c.read.ensures in (
       subst FitsFields (sym same) (slot_head_of-fits bytes are),
       sym (slot_head_bytes-of bytes are c.if-packet-lt-HEAD.false (agrees _ _ c.if-ne.ensures) (agrees _ _ c.if-ne-2.ensures))
-      ∙ ap (λ (h : SlotHead). slot_head_bytes h ++ drop 24 bytes) (sym same)
-      ∙ ap (λ (l : List ℕ). slot_head_bytes (head_in c.read.result) ++ l) (sym (take_rest bytes 24)),
+          ∙ ap (λ (h : SlotHead). slot_head_bytes h ++ drop 24 bytes) (sym same)
+          ∙ ap (λ (l : List ℕ). slot_head_bytes (head_in c.read.result) ++ l) (sym (take_rest bytes 24)),
     )
