@@ -1,7 +1,7 @@
 //! Protected packets: how a slot stands in an RTP packet and in a record of a capture.
 ghost use Rattle.std.specs.Prelude.{◌≡◌, ◌+◌, ◌*◌, ◌<◌, ◌≤◌, ◌++◌, List, ℕ, length, IfSome, IfNone, OnOk, OnErr};
 ghost use Rattle.sc_outside.specs.Whole.{PutsAll, WriteFailed};
-ghost use Rattle.sc_slots.specs.Slot.{FitsPacket, IsProtected, ReadsAs, SlotHead as Head24, SlotIsWellShaped, slot_behind, slot_bytes};
+ghost use Rattle.sc_slots.specs.Slot.{FitsPacket, IsProtected, ReadsAs, SlotHead as Meaning, SlotIsWellShaped, slot_behind, slot_bytes};
 ghost use Rattle.sc_slots.specs.Answers.{head_in, reading, slot_in};
 
 use super::head::{HEAD, SlotHead};
@@ -113,7 +113,7 @@ fn slot_of<'a>(head: SlotHead, rest: &'a [u8], k: usize) -> Slot<'a>
 /// The head of a protected packet and what is behind it; `None` exactly where the record is a stranger.
 fn protected(rec: &DumpRecord) -> Option<(SlotHead, &[u8])>
     ensures some { IfSome result (λ p. IsProtected rec.now (head_in p.0) p.1.now) }
-    ensures none { IfNone result ((h : Head24) (rest : List ℕ) → IsProtected rec.now h rest → ⊥) }
+    ensures none { IfNone result ((h : Meaning) (rest : List ℕ) → IsProtected rec.now h rest → ⊥) }
 {
     match kind_of(rec) {
         Kind::Rtp => SlotHead::split_from(rec.body()),
@@ -139,7 +139,7 @@ pub fn read_slot<'a>(rec: &'a DumpRecord, k: usize, r: usize, deadline: u32) -> 
     if head.has_bad_shape(rest, k, r, deadline) {
         return SlotReading::BadShape;
     }
-    // what it says is that the record isn't longer than any may be
+    // that the record fits, and so the packet, is what this call says
     let _whole = rec.bytes();
     SlotReading::Slot(slot_of(head, rest, k))
 }

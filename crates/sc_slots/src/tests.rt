@@ -1,5 +1,8 @@
 //! Worked frames and protected packets, and what is refused.
 
+ghost use Rattle.sc_slots.specs.Answers.{slot_in};
+ghost use Rattle.sc_slots.specs.Slot.{FitsPacket};
+
 use super::*;
 use sc_outside::{MemoryPort, NoMemory};
 use sc_rtpdump::{DumpRecord, next_record};
@@ -347,7 +350,19 @@ fn reads_other_records(rt: HostRuntime) -> Result<(), Fail> {
     Ok(())
 }
 
-// The widest packet: 63 symbols and one of parity, of 1,023 bytes each.
+// Writes a slot of 63 symbols and one of parity to a port with room for so many bytes. It answers whether it was written
+// and what the port was given.
+fn written(alloc: Global, slot: &Slot<'_>, room: usize) -> Result<(bool, Vec<u8>), NoMemory>
+    requires { FitsPacket 63 1 (slot_in slot.now) }
+{
+    let mut port = MemoryPort::new(alloc, Vec::new(alloc), room, 10, 65_536, Vec::new(alloc))?;
+    let whole = write_slot(&mut port, 3, slot, 63, 1).is_ok();
+    let mut given = Vec::new(alloc);
+    given.extend_from_slice(port.given())?;
+    Ok((whole, given))
+}
+
+// The widest packet: 63 symbols and one of parity, of 1,023 bytes each. All but its last byte is no record.
 #[test]
 fn widest(rt: HostRuntime) -> Result<(), Fail> {
     let block = vec![in rt.alloc(); 7; 64_449]?;
@@ -357,31 +372,16 @@ fn widest(rt: HostRuntime) -> Result<(), Fail> {
         end: 0,
         m: 1023,
         timestamp: 1,
-        block: &block,
-        parity: &parity,
+        block: block.as_slice(),
+        parity: parity.as_slice(),
     };
-    let mut port = MemoryPort::new(
-        rt.alloc(),
-        Vec::new(rt.alloc()),
-        65_504,
-        10,
-        65_536,
-        Vec::new(rt.alloc()),
-    )?;
-    assert!(rt; write_slot(&mut port, 3, &slot, 63, 1).is_ok());
-    let rec = record_of(rt.alloc(), port.given())?;
+    let (whole, given) = written(rt.alloc(), &slot, 65_504)?;
+    assert!(rt; whole);
+    let rec = record_of(rt.alloc(), given.as_slice())?;
     assert_eq!(rt; rec.plen(), 65_496);
-    assert_eq!(rt; read_slot(&rec, 63, 1, 40), SlotReading::Slot(slot));
-    // there is room for all but the last byte
-    let mut port = MemoryPort::new(
-        rt.alloc(),
-        Vec::new(rt.alloc()),
-        65_503,
-        10,
-        65_536,
-        Vec::new(rt.alloc()),
-    )?;
-    assert!(rt; write_slot(&mut port, 3, &slot, 63, 1).is_err());
-    assert_eq!(rt; port.given().len(), 65_503);
+    assert_eq!(rt; case_of(read_slot(&rec, 63, 1, 40)), Case::Slot);
+    let (whole, given) = written(rt.alloc(), &slot, 65_503)?;
+    assert!(rt; !whole);
+    assert_eq!(rt; given.len(), 65_503);
     Ok(())
 }
