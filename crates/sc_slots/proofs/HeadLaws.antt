@@ -109,7 +109,8 @@ slot_head_bytes-of bytes are size first marks =
     let m = to_be_bytes-number16 (g 18 0) (g 19 0) (are 18) (are 19) in
     let number = to_be_bytes-number32 (g 20 0) (g 21 0) (g 22 0) (g 23 0) (are 20) (are 21) (are 22) (are 23) in
     let h = slot_head_of bytes in
-    spelled-parts h rest
+    let spelled = spelled-parts h rest in
+    spelled
     ∙ ap (λ (l : List ℕ). parts first_bytes l (to_be_bytes w32 h.timestamp) mark_bytes (h.k ∷ []) (h.r ∷ []) (h.end ∷ []) (to_be_bytes w16 h.m) (to_be_bytes w32 h.number) rest) sequence
     ∙ ap (λ (l : List ℕ). parts first_bytes (g 2 0 ∷ g 3 0 ∷ []) l mark_bytes (h.k ∷ []) (h.r ∷ []) (h.end ∷ []) (to_be_bytes w16 h.m) (to_be_bytes w32 h.number) rest) timestamp
     ∙ ap (λ (l : List ℕ). parts first_bytes (g 2 0 ∷ g 3 0 ∷ []) (g 4 0 ∷ g 5 0 ∷ g 6 0 ∷ g 7 0 ∷ []) mark_bytes (h.k ∷ []) (h.r ∷ []) (h.end ∷ []) l (to_be_bytes w32 h.number) rest) m

@@ -85,9 +85,10 @@ same_slot n e m t b p s a c d f i j = cc
 
 slot_behind-parts : (k : ℕ) (r : ℕ) (s : Slot) → FitsPacket k r s → slot_behind k (head_of_slot k r s) (s.block ++ s.parity) ≡ s
 slot_behind-parts k r s fits =
-    same_slot _ _ _ _ _ _ s refl refl refl refl
-    (take_at s.block s.parity (k * s.m) fits.block)
-    (drop_at s.block s.parity (k * s.m) fits.block)
+    let front = take_at s.block s.parity (k * s.m) fits.block in
+    let back = drop_at s.block s.parity (k * s.m) fits.block in
+    let same = same_slot _ _ _ _ _ _ s refl refl refl refl front back in
+    same
 
 -- a protected packet that is whole is of the kind Rtp
 slot_kind : (k r offset : ℕ) (s : Slot) → FitsSlot s → kind (slot_record k r offset s) ≡ Rtp

@@ -25,19 +25,19 @@ const FLUSH: &[u8; 32] =
 
 #[test]
 fn widths(rt: HostRuntime) {
-    for (size, k, want) in [
-        (12, 1, 18),
-        (12, 2, 9),
-        (12, 5, 4),
-        (12, 18, 1),
-        (12, 19, 1),
-        (172, 9, 20),
-        (1472, 63, 24),
-        (1472, 1, 1478),
-        (0, 1, 6),
-        (65_535, 1, 65_541),
+    for (have, want) in [
+        (width(12, 1), 18),
+        (width(12, 2), 9),
+        (width(12, 5), 4),
+        (width(12, 18), 1),
+        (width(12, 19), 1),
+        (width(172, 9), 20),
+        (width(1472, 63), 24),
+        (width(1472, 1), 1478),
+        (width(0, 1), 6),
+        (width(65_535, 1), 65_541),
     ] {
-        assert_eq!(rt; width(size, k), want, "{size} {k}");
+        assert_eq!(rt; have, want);
     }
 }
 
@@ -164,9 +164,11 @@ fn writes_slots(rt: HostRuntime) -> Result<(), Fail> {
         )?;
         assert_eq!(rt; &slot_head(offset, &slot, 1, 1)[..], head);
         assert!(rt; write_slot(&mut port, offset, &slot, 1, 1).is_ok());
-        assert_eq!(rt; &port.given()[..32], head);
-        assert_eq!(rt; &port.given()[32..50], slot.block);
-        assert_eq!(rt; &port.given()[50..], slot.parity);
+        let mut want = Vec::new(rt.alloc());
+        want.extend_from_slice(head)?;
+        want.extend_from_slice(slot.block)?;
+        want.extend_from_slice(slot.parity)?;
+        assert_eq!(rt; port.given(), want.as_slice());
         let rec = record_of(rt.alloc(), port.given())?;
         assert_eq!(rt; read_slot(&rec, 1, 1, 2), SlotReading::Slot(slot));
     }
