@@ -3,3 +3,4 @@ pub mod Fault
 pub mod CodeFile
 pub mod CodeText
 pub mod Numbers
+pub mod Reading

@@ -1,12 +1,5 @@
-use Rattle.std.proofs.lemmas.Result.{IfOk-weaker}
-use Rattle.serde_json.specs.View.{view}
-use Rattle.sc_codefile.proofs.FileSteps.{is_file-numbers}
+use Rattle.sc_codefile.proofs.ReadingLaws.{reading_of}
 use Rattle.sc_codefile.proofs.read.read_code.Goals as goal
 
-pub returns-clause-file : goal.returns-clause-file
-returns-clause-file c =
-    IfOk-weaker c.code_file.result _ _ (λ file made. record {
-      value = view c.in_ok-value.value;
-      is_value = c.in_ok-value.ensures.value;
-      is_file = is_file-numbers (view c.in_ok-value.value) c.in_ok-numbers.numbers file c.in_ok-numbers.ensures.numbers made;
-    }) c.code_file.ensures.file
+pub returns-clause-reading : goal.returns-clause-reading
+returns-clause-reading c = reading_of c.args.text.now c.read_value.result c.read_value.ensures.file c.read_value.ensures.fault

@@ -1,0 +1,35 @@
+-- The one answer for all bytes: the code file that they are, or why they are none.
+use Rattle.std.specs.Prelude.{ℕ, List, [], Option, Some, None, unwrap_or, map, Result, Ok, Err, if◌then◌else◌}
+use Rattle.std.specs.Str.{is_utf8}
+use Rattle.serde_json.specs.Data.{Data}
+use Rattle.serde_json.specs.Read.{read}
+use Rattle.sc_code.specs.declared.code.CodeFile.{CodeFile}
+use Rattle.sc_codefile.specs.declared.fault.FileFault.{FileFault}
+use Rattle.sc_codefile.specs.declared.fault.FileFault.TheVariants.{NotJson}
+use Rattle.sc_codefile.specs.Fault.{first_of}
+use Rattle.sc_codefile.specs.CodeFile.{channel_at, k_at, lags_at, r_at, code_faults}
+use Rattle.sc_codefile.specs.Numbers.{with_cols}
+
+-- the file of what a value has at its keys, with zeros for what it hasn't
+abbrev pub file_at : Data → CodeFile
+file_at d = record {
+  channel = unwrap_or (channel_at d) (record { w = 0; b = 0; n = 0; t = 0 });
+  code = record {
+    k = unwrap_or (k_at d) 0;
+    r = unwrap_or (r_at d) 0;
+    lags = map (with_cols (unwrap_or (r_at d) 0)) (unwrap_or (lags_at d) []);
+  };
+}
+
+-- a value without a fault is that file
+abbrev pub reading_of_value : Option FileFault → Data → Result CodeFile FileFault
+reading_of_value None d = Ok (file_at d)
+reading_of_value (Some fault) d = Err fault
+
+abbrev pub reading_by : Option Data → Result CodeFile FileFault
+reading_by None = Err NotJson
+reading_by (Some d) = reading_of_value (first_of (code_faults d)) d
+
+-- The code file that bytes are, or the first fault. `serde_json` reads values from UTF-8 alone.
+unfoldable pub code_reading : List ℕ → Result CodeFile FileFault
+code_reading text = if is_utf8 text then reading_by (read text) else Err NotJson
