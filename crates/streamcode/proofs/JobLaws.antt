@@ -13,17 +13,33 @@ use Rattle.sc_rtpdump.specs.Record.{Break, short_head, short_length, cut_body, F
 use Rattle.sc_rtpdump.specs.Capture.{Parts, Reading, no_preamble, reads, reading_of}
 use Rattle.sc_rtpdump.specs.Thin.{break_fault, end_at, rest_end, thinning, thin_end}
 use Rattle.sc_rtpdump.proofs.ThinLaws.{thinning-IsJob}
+use Rattle.sc_code.specs.declared.code.CodeFile.{CodeFile}
+use Rattle.sc_codefile.specs.declared.fault.FileFault.{FileFault}
+use Rattle.sc_rtpdump.specs.declared.fault.DumpFault.TheVariants.{Preamble, RecordHead, RecordLength, Truncated, Read, Memory}
+use Rattle.sc_slots.specs.declared.protect.ProtectFault.{ProtectFault}
+use Rattle.sc_slots.specs.declared.protect.ProtectFault.TheVariants.{TooWide, Dump as Unread, TooManyRecords as TooManyRecordsThere, TooLong, TooManySlots as TooManySlotsThere, Write as Unwritten, Memory as NoRoomThere}
+use Rattle.sc_slots.specs.declared.protect.Protected.{Protected as Done}
+use Rattle.sc_slots.specs.Protected.{Protection, protection_of, packet_len, protecting_within, protecting, IsOfInput as IsDecidedAnswer}
+use Rattle.sc_slots.proofs.ProtectedLaws.{protecting-IsJob, protecting-decided}
 use Rattle.sc_trial.specs.Generated.{generated}
+use Rattle.streamcode.specs.declared.end.Role.{Role}
 use Rattle.streamcode.specs.declared.end.End.{End}
-use Rattle.streamcode.specs.declared.end.End.TheVariants.{Generated, Usage, LossRefused, Capture, MoreRecords, FewerRecords, Thinned, ReadFault, WriteFault, NoMemory}
-use Rattle.streamcode.specs.End.{status_of, end_of_drop}
-use Rattle.streamcode.specs.Jobs.{refusal, lose_by, lose_job, gen_job, IsSilent}
+use Rattle.streamcode.specs.declared.end.End.TheVariants.{Thinned, Generated, Protected, LossRefused, Usage, Capture, MoreRecords, FewerRecords, FileRefused, FileTooLong, PacketTooWide, PacketTooLong, TooManyRecords, TooManySlots, ReadFault, WriteFault, NoMemory}
+use Rattle.streamcode.specs.End.{status_of, end_of_drop, end_of_protect}
+use Rattle.streamcode.specs.Jobs.{refusal, lose_by, lose_job, gen_job, protect_job, IsSilent}
 
 -- ends that the words and the input decide
 abbrev pub IsOfInput : End → Type 0
 IsOfInput (Thinned dropped) = Unit {0}
 IsOfInput (Generated records) = Unit {0}
+IsOfInput (Protected done) = Unit {0}
 IsOfInput (LossRefused window) = Unit {0}
+IsOfInput (FileRefused role fault) = Unit {0}
+IsOfInput (FileTooLong role) = Unit {0}
+IsOfInput (PacketTooWide bytes) = Unit {0}
+IsOfInput (PacketTooLong index len) = Unit {0}
+IsOfInput TooManyRecords = Unit {0}
+IsOfInput TooManySlots = Unit {0}
 IsOfInput (Capture fault) = Unit {0}
 IsOfInput (MoreRecords flags) = Unit {0}
 IsOfInput (FewerRecords flags records) = Unit {0}
@@ -34,15 +50,22 @@ IsOfInput NoMemory = ⊥
 
 -- their status is none of these
 pub record IsInside (status : ℕ) : Type 0 where
-  pub low : (status ≡ 0) ⊎ ((status ≡ 1) ⊎ (status ≡ 3))
+  pub low : (status ≡ 0) ⊎ ((status ≡ 1) ⊎ ((status ≡ 3) ⊎ (status ≡ 4)))
 
 pub of_input_inside : (end : End) → IsOfInput end → IsInside (status_of end)
 of_input_inside (Thinned dropped) h = record { low = inl refl }
 of_input_inside (Generated records) h = record { low = inl refl }
+of_input_inside (Protected done) h = record { low = inl refl }
 of_input_inside (LossRefused window) h = record { low = inr (inl refl) }
-of_input_inside (Capture fault) h = record { low = inr (inr refl) }
-of_input_inside (MoreRecords flags) h = record { low = inr (inr refl) }
-of_input_inside (FewerRecords flags records) h = record { low = inr (inr refl) }
+of_input_inside (Capture fault) h = record { low = inr (inr (inl refl)) }
+of_input_inside (MoreRecords flags) h = record { low = inr (inr (inl refl)) }
+of_input_inside (FewerRecords flags records) h = record { low = inr (inr (inl refl)) }
+of_input_inside (FileRefused role fault) h = record { low = inr (inr (inl refl)) }
+of_input_inside (FileTooLong role) h = record { low = inr (inr (inr refl)) }
+of_input_inside (PacketTooWide bytes) h = record { low = inr (inr (inr refl)) }
+of_input_inside (PacketTooLong index len) h = record { low = inr (inr (inr refl)) }
+of_input_inside TooManyRecords h = record { low = inr (inr (inr refl)) }
+of_input_inside TooManySlots h = record { low = inr (inr (inr refl)) }
 of_input_inside Usage h = absurd h
 of_input_inside ReadFault h = absurd h
 of_input_inside WriteFault h = absurd h
@@ -53,7 +76,10 @@ not_inside a b h e out = elim h.low as (λ _. ⊥) [
   | inl zero ↦ elim out as (λ _. ⊥) [ inl two ↦ omega arith | inr high ↦ omega arith ]
   | inr more ↦ elim more as (λ _. ⊥) [
     | inl one ↦ elim out as (λ _. ⊥) [ inl two ↦ omega arith | inr high ↦ omega arith ]
-    | inr three ↦ elim out as (λ _. ⊥) [ inl two ↦ omega arith | inr high ↦ omega arith ]
+    | inr late ↦ elim late as (λ _. ⊥) [
+      | inl three ↦ elim out as (λ _. ⊥) [ inl two ↦ omega arith | inr high ↦ omega arith ]
+      | inr four ↦ elim out as (λ _. ⊥) [ inl two ↦ omega arith | inr high ↦ omega arith ]
+    ]
   ]
 ]
 
@@ -125,6 +151,53 @@ gen_job-is seed count size = record {
   };
   of_input = λ input. tt;
 }
+
+decided_of_input : (result : Result Done ProtectFault) → IsDecidedAnswer result → IsOfInput (end_of_protect result)
+decided_of_input (Ok done) h = tt
+decided_of_input (Err (TooWide bytes)) h = tt
+decided_of_input (Err (Unread Preamble)) h = tt
+decided_of_input (Err (Unread (RecordHead i))) h = tt
+decided_of_input (Err (Unread (RecordLength i))) h = tt
+decided_of_input (Err (Unread (Truncated i))) h = tt
+decided_of_input (Err (Unread Read)) h = absurd h
+decided_of_input (Err (Unread Memory)) h = absurd h
+decided_of_input (Err TooManyRecordsThere) h = tt
+decided_of_input (Err (TooLong index len)) h = tt
+decided_of_input (Err TooManySlotsThere) h = tt
+decided_of_input (Err Unwritten) h = absurd h
+decided_of_input (Err NoRoomThere) h = absurd h
+
+-- how the outside ends protecting
+record IsEndedAs (job : Job (Result Done ProtectFault)) : Type 0 where
+  read_failed : job.read_failed ≡ Err (Unread Read)
+  write_failed : job.write_failed ≡ Err Unwritten
+  no_memory : job.no_memory ≡ Err NoRoomThere
+
+ended_within : (wide : Bool) (p : Protection) → IsEndedAs (protecting_within wide p)
+ended_within true p = record { read_failed = refl; write_failed = refl; no_memory = refl }
+ended_within false p = record { read_failed = refl; write_failed = refl; no_memory = refl }
+
+ended : (file : CodeFile) (size : ℕ) → IsEndedAs (protecting file size)
+ended file size = ended_within (nat_lt 65527 (packet_len (protection_of file size))) (protection_of file size)
+
+pub protect_job-is : (file : CodeFile) (size : ℕ) → IsProgramJob (protect_job file size)
+protect_job-is file size =
+    let as = ended file size in
+    record {
+      run = record {
+        is_job = IsJob-told_as end_of_protect (protecting file size) (protecting-IsJob file size);
+        read_failed = ap end_of_protect as.read_failed;
+        write_failed = ap end_of_protect as.write_failed;
+        no_memory = ap end_of_protect as.no_memory;
+      };
+      of_input = λ input. decided_of_input _ (protecting-decided file size input);
+    }
+
+pub file_refused-is : (role : Role) (fault : FileFault) → IsProgramJob (refusal true (FileRefused role fault))
+file_refused-is role fault = record { run = refusal-is true (FileRefused role fault); of_input = λ input. tt }
+
+pub file_too_long-is : (role : Role) → IsProgramJob (refusal true (FileTooLong role))
+file_too_long-is role = record { run = refusal-is true (FileTooLong role); of_input = λ input. tt }
 
 -- ---- how `lose` ends
 lose_by_memory : (window : Option ℕ) (flags : List Bool) (told : Told) → Ends (lose_by window flags) told told NoMemory

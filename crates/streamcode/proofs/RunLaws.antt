@@ -1,19 +1,23 @@
 -- What follows from how a run ended by the plan of its words.
-use Rattle.std.proofs.Common.{◌≡◌, ◌⊎◌, ◌↔◌, inl, inr, ℕ, ◌-◌, ◌^◌, ◌<◌, false, Option, None, Some, IfSome, List, [], ◌∷◌, ◌++◌, length, refl, sym, ap, ◌∙◌, subst, arith, length-append}
+use Rattle.std.proofs.Common.{◌≡◌, ◌⊎◌, ◌↔◌, inl, inr, ℕ, ◌-◌, ◌^◌, ◌<◌, Bool, true, false, nat_lt, if◌then◌else◌, Option, None, Some, IfSome, List, [], ◌∷◌, ◌++◌, length, Result, Ok, Err, refl, sym, ap, ◌∙◌, subst, arith, length-append}
 use Rattle.sc_outside.specs.Cabinet.{CabinetTold, Lacks, IsStartOfFile, FetchFails, fault, lacks}
 use Rattle.sc_outside.specs.Ends.{Due, Job, only, IsProperPrefix, Cause, input, read, write, memory, IsCaused, IsDue, IsOutside, GivesPrefix}
 use Rattle.sc_outside.specs.Faults.{Rose}
 use Rattle.sc_outside.specs.Port.{Told}
 use Rattle.sc_outside.proofs.EndsLaws.{Ends-due, Ends-prefix, IsPrefix-nil}
 use Rattle.sc_outside.proofs.MovesLaws.{Moves-none}
+use Rattle.sc_code.specs.declared.code.CodeFile.{CodeFile}
+use Rattle.sc_codefile.specs.declared.fault.FileFault.{FileFault}
+use Rattle.sc_codefile.specs.Reading.{code_reading}
+use Rattle.streamcode.specs.declared.end.Role.TheVariants.{Code}
 use Rattle.streamcode.specs.declared.end.End.{End}
 use Rattle.streamcode.specs.declared.end.End.TheVariants.{Usage, ReadFault}
 use Rattle.streamcode.specs.End.{status_of}
 use Rattle.streamcode.specs.Jobs.{refusal}
 use Rattle.streamcode.specs.Plans.{Plan, owes, fetches, most_fetched, due_by, due_of, PlanEnds, IsSilentPlan, LacksOne}
 use Rattle.streamcode.specs.Runs.{command_plan, files_of, IsDueStatus, ReadRose, IsOutsideStatus, IsQuiet}
-use Rattle.streamcode.specs.Words.{Command, lose_word, generate}
-use Rattle.streamcode.proofs.JobLaws.{not_inside, of_input_inside, IsRunJob, IsProgramJob, refusal-is, lose_job-is, gen_job-is}
+use Rattle.streamcode.specs.Words.{Command, lose_word, generate, protect}
+use Rattle.streamcode.proofs.JobLaws.{not_inside, of_input_inside, IsRunJob, IsProgramJob, refusal-is, lose_job-is, gen_job-is, protect_job-is, file_refused-is, file_too_long-is}
 
 -- ---- what the plans of commands keep
 abbrev IsAmong : List ℕ → List (List ℕ) → Type 0
@@ -39,9 +43,23 @@ run_plan : (names : List (List ℕ)) (plan : Plan) → IsProgramPlan names plan 
 run_plan names (owes job) p = p.run
 run_plan names (fetches name next) p = λ bytes. run_plan names (next bytes) (p.1 bytes)
 
+-- what is owed by the bytes of a code file
+reading_plan : (names : List (List ℕ)) (next : CodeFile → Plan) → ((file : CodeFile) → IsProgramPlan names (next file)) → (reading : Result CodeFile FileFault) → IsProgramPlan names (by_code next reading)
+reading_plan names next h (Ok file) = h file
+reading_plan names next h (Err fault) = file_refused-is Code fault
+
+bytes_plan_by : (names : List (List ℕ)) (next : CodeFile → Plan) → ((file : CodeFile) → IsProgramPlan names (next file)) → (bytes : List ℕ) (short : Bool)
+    → IsProgramPlan names (if short then by_code next (code_reading bytes) else owes (refusal true (FileTooLong Code)))
+bytes_plan_by names next h bytes true = reading_plan names next h (code_reading bytes)
+bytes_plan_by names next h bytes false = file_too_long-is Code
+
+bytes_plan : (names : List (List ℕ)) (next : CodeFile → Plan) → ((file : CodeFile) → IsProgramPlan names (next file)) → (bytes : List ℕ) → IsProgramPlan names (by_bytes next bytes)
+bytes_plan names next h bytes = bytes_plan_by names next h bytes (nat_lt (length bytes) most_fetched)
+
 program_plan : (command : Command) → IsProgramPlan (files_of (Some command)) (command_plan (Some command))
 program_plan (lose_word channel flags) = lose_job-is channel flags
 program_plan (generate seed count size) = gen_job-is seed count size
+program_plan (protect code size) = (inl refl, λ bytes. bytes_plan (code ∷ []) (λ file. owes (protect_job file size)) (λ file. protect_job-is file size) bytes)
 
 is_plan : (command : Option Command) → IsRunPlan (command_plan command)
 is_plan None = refusal-is false Usage

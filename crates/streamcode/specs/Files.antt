@@ -3,10 +3,10 @@ use Rattle.std.specs.Prelude.{◌≡◌, ◌⊎◌, ℕ, ◌<◌, ◌≤◌, tru
 use Rattle.sc_outside.specs.Cabinet.{CabinetTold, Fetched}
 use Rattle.sc_code.specs.declared.code.CodeFile.{CodeFile}
 use Rattle.sc_codefile.specs.declared.fault.FileFault.{FileFault}
-use Rattle.sc_codefile.specs.CodeFile.{code_reading}
+use Rattle.sc_codefile.specs.Reading.{code_reading}
 use Rattle.streamcode.specs.declared.end.Role.TheVariants.{Code}
 use Rattle.streamcode.specs.declared.end.End.{End}
-use Rattle.streamcode.specs.declared.end.End.TheVariants.{FileRefused, FileTooLong, NoMemory}
+use Rattle.streamcode.specs.declared.end.End.TheVariants.{FileRefused, FileTooLong}
 use Rattle.streamcode.specs.Jobs.{refusal}
 use Rattle.streamcode.specs.Plans.{Plan, owes, fetches, most_fetched, FetchEnds}
 
@@ -24,14 +24,14 @@ by_bytes next bytes =
 abbrev pub code_plan : List ℕ → (CodeFile → Plan) → Plan
 code_plan name next = fetches name (by_bytes next)
 
--- How a run ends by the bytes of a file that came and is no code file.
+-- How a run ends by the bytes of a file that came and is no code file: it is too long, or it has a fault.
 abbrev pub CodeRefused : List ℕ → End → Type 0
 CodeRefused bytes end =
-    (end ≡ NoMemory)
-    ⊎ (((end ≡ FileTooLong Code) × (most_fetched ≤ length bytes))
-      ⊎ ((fault : FileFault) × (end ≡ FileRefused Code fault) × (length bytes < most_fetched) × (code_reading bytes ≡ Err fault)))
+    ((end ≡ FileTooLong Code) × (most_fetched ≤ length bytes))
+    ⊎ ((fault : FileFault) × (end ≡ FileRefused Code fault) × (length bytes < most_fetched) × (code_reading bytes ≡ Err fault))
 
--- The file of a code was fetched and is one; or how the run ends without it.
+-- The file of a code was fetched and is one; or how the run ends without it: the fetch ended it, or memory ran out while it was
+-- read, or it is refused.
 abbrev pub CodeCame : CabinetTold → CabinetTold → List ℕ → Result CodeFile End → Type 0
 CodeCame old new name (Ok file) =
     (bytes : List ℕ) × Fetched old new name most_fetched bytes × (length bytes < most_fetched) × (code_reading bytes ≡ Ok file)

@@ -2,17 +2,19 @@
 #![tactic(auto)]
 
 mod end;
+mod files;
 mod generate;
 mod lose;
 mod lose_laws;
 mod note;
 mod program;
+mod protect;
 #[cfg(test)]
 mod tests;
 mod word_laws;
 mod words;
 
-pub use end::End;
+pub use end::{End, Role};
 pub use lose_laws::lose_is_thinning;
 pub use note::conclude;
 pub use program::run;

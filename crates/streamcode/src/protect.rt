@@ -1,6 +1,6 @@
 //! `protect`: a capture protected by a code.
 ghost use Rattle.std.specs.Prelude.{◌≤◌};
-ghost use Rattle.sc_trial.specs.declared.capture.TheConstants.{MIN_SIZE, MAX_SIZE};
+ghost use Rattle.sc_slots.specs.declared.protect.TheConstants.{MIN_SIZE, MAX_SIZE};
 ghost use Rattle.streamcode.specs.Files.{code_plan};
 ghost use Rattle.streamcode.specs.Jobs.{protect_job};
 ghost use Rattle.streamcode.specs.Plans.{owes, PlanEnds};
