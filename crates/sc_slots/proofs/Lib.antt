@@ -1,1 +1,2 @@
 pub mod ProtectedLaws
+pub mod MakerSteps

@@ -94,9 +94,9 @@ impl SlotMaker {
         ensures width { IfOk result (λ s. s.width ≡ m) }
         ensures stands { IfOk result (λ s. StandsFor s []) }
     {
-        let width = usize::from(m);
+        let (k, width) = (code.k(), usize::from(m));
         let encoder = Encoder::start(alloc, code, width)?;
-        let block = zeros(alloc, code.k() * width)?;
+        let block = zeros(alloc, k * width)?;
         let parity = zeros(alloc, code.r() * width)?;
         Ok(SlotMaker {
             encoder,
