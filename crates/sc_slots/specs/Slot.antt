@@ -1,8 +1,8 @@
 -- Protected packets: how a slot, which is a block of k symbols and its parity of r symbols, stands in an RTP packet and in
 -- a record of a capture. A symbol has m bytes. All numbers are big-endian. Of this project, version 1.
-use Rattle.std.specs.Prelude.{◌≡◌, ◌≢◌, ◌⊎◌, ℕ, ◌+◌, ◌*◌, ◌%◌, ◌^◌, ◌<◌, ◌≤◌, List, [], ◌∷◌, ◌++◌, length, take, drop, replicate, codes}
+use Rattle.std.specs.Prelude.{◌≡◌, ◌≢◌, ◌⊎◌, ℕ, ◌+◌, ◌*◌, ◌%◌, ◌^◌, ◌<◌, ◌≤◌, List, [], ◌∷◌, ◌++◌, length, take, drop, replicate, slice_index, codes}
 use Rattle.std.specs.Int.{w16, w32, to_be_bytes}
-use Rattle.sc_rtp.specs.Head.{head_bytes}
+use Rattle.sc_rtp.specs.Head.{head_bytes, number16, number32}
 use Rattle.sc_rtp.specs.Packet.{plain_head}
 use Rattle.sc_rtpdump.specs.declared.kind.Kind.TheVariants.{Rtp}
 use Rattle.sc_rtpdump.specs.Kind.{kind}
@@ -79,6 +79,20 @@ pub record FitsFields (h : SlotHead) : Type 0 where
   pub end : h.end < 256
   pub m : h.m < 2 ^ 16
   pub number : h.number < 2 ^ 32
+
+-- the numbers that the first 24 bytes spell
+unfoldable pub slot_head_of : List ℕ → SlotHead
+slot_head_of bytes =
+    let at = slice_index bytes in
+    record {
+      sequence = number16 (at 2) (at 3);
+      timestamp = number32 (at 4) (at 5) (at 6) (at 7);
+      k = at 15;
+      r = at 16;
+      end = at 17;
+      m = number16 (at 18) (at 19);
+      number = number32 (at 20) (at 21) (at 22) (at 23);
+    }
 
 -- a record is a protected packet, whole, with this head and this behind it
 pub record IsProtected (e : Record) (h : SlotHead) (rest : List ℕ) : Type 0 where

@@ -4,6 +4,10 @@ ghost use Rattle.sc_outside.specs.Whole.{PutsAll, WriteFailed};
 ghost use Rattle.sc_slots.specs.Slot.{FitsPacket, ReadsAs, SlotIsWellShaped, slot_bytes};
 ghost use Rattle.sc_slots.specs.Answers.{reading, slot_in};
 
+use super::head::{HEAD, SlotHead};
+use sc_outside::{Failed, Port, write_whole};
+use sc_rtpdump::{DumpRecord, Head, Kind, kind_of};
+
 /// A slot of a protected capture: a block of `k` symbols and its parity of `r` symbols, of `m` bytes each, symbol after
 /// symbol.
 #[derive(Clone, Copy, Debug, PartialEq, Eq)]
@@ -45,6 +49,28 @@ pub fn slot_head(offset: u32, slot: &Slot<'_>, k: usize, r: usize) -> [u8; 32]
     requires packet { FitsPacket k r (slot_in slot.now) }
     ensures { result ++ (slot.now.block.now ++ slot.now.parity.now) ≡ slot_bytes k r offset (slot_in slot.now) }
 {
+    let len = HEAD + (k + r) * usize::from(slot.m);
+    let record = Head {
+        len: (len + 8) as u16,
+        plen: len as u16,
+        offset,
+    };
+    let packet = SlotHead {
+        sequence: (slot.number % 65_536) as u16,
+        timestamp: slot.timestamp,
+        k: k as u8,
+        r: r as u8,
+        end: slot.end,
+        m: slot.m,
+        number: slot.number,
+    };
+    let record = record.to_bytes();
+    let packet = packet.to_bytes();
+    let mut bytes = [0; 32];
+    let (front, back) = bytes.split_at_mut(8);
+    front.copy_from_slice(&record);
+    back.copy_from_slice(&packet);
+    bytes
 }
 
 /// Writes the record of a slot, whose packet is whole. `offset` is the record's, in milliseconds. After `Failed` a prefix of
@@ -61,6 +87,10 @@ pub fn write_slot<P: Port>(
     ensures ok { OnOk result (PutsAll (P.told port.old) (P.told port.new) (slot_bytes k r offset (slot_in slot.now))) }
     ensures err { OnErr result (WriteFailed (P.told port.old) (P.told port.new) (slot_bytes k r offset (slot_in slot.now))) }
 {
+    let head = slot_head(offset, slot, k, r);
+    write_whole(port, &head)?;
+    write_whole(port, slot.block)?;
+    write_whole(port, slot.parity)
 }
 
 /// Reads a record as a slot of a code with `k` and `r` and of a channel with this deadline. The RTP timestamp isn't tested.
@@ -69,4 +99,29 @@ pub fn read_slot<'a>(rec: &'a DumpRecord, k: usize, r: usize, deadline: u32) -> 
     ensures reads { ReadsAs k r deadline rec.now (reading result) }
     ensures slot { SlotIsWellShaped k r deadline rec.now (reading result) }
 {
+    match kind_of(rec) {
+        Kind::Rtp => {}
+        Kind::Rtcp | Kind::Cut | Kind::Strange => return SlotReading::Stranger,
+    }
+    let Some((head, rest)) = SlotHead::split_from(rec.body()) else {
+        return SlotReading::Stranger;
+    };
+    if usize::from(head.k) != k {
+        return SlotReading::WrongCode;
+    }
+    if usize::from(head.r) != r {
+        return SlotReading::WrongCode;
+    }
+    if head.has_bad_shape(rest, k, r, deadline) {
+        return SlotReading::BadShape;
+    }
+    let size = k * usize::from(head.m);
+    SlotReading::Slot(Slot {
+        number: head.number,
+        end: head.end,
+        m: head.m,
+        timestamp: head.timestamp,
+        block: &rest[..size],
+        parity: &rest[size..],
+    })
 }
