@@ -12,3 +12,6 @@ pub mod SlotLaws
 pub mod WriteSteps
 pub mod ProtectedLaws
 pub mod MakerSteps
+pub mod TakeSteps
+pub mod FlushSteps
+pub mod EndSteps

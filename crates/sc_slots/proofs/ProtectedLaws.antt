@@ -1,5 +1,5 @@
 -- Protected captures: slots depend on the records before them alone, and what is due grows with what was read.
-use Rattle.std.proofs.Common.{◌≡◌, ℕ, zero, suc, ◌+◌, ◌-◌, ◌*◌, ◌<◌, ◌≤◌, Bool, true, false, cond, min, Option, Some, None, List, [], ◌∷◌, ◌++◌, length, take, drop, map, filter, replicate, get_or, Ok, Err, refl, sym, ap, ◌∙◌, subst, arith, append-nil, append_assoc, length-append, take_at}
+use Rattle.std.proofs.Common.{◌≡◌, ℕ, zero, suc, ◌+◌, ◌-◌, ◌*◌, ◌<◌, ◌≤◌, Bool, true, false, cond, min, nat_le, nat_lt, Option, Some, None, List, [], ◌∷◌, ◌++◌, length, take, drop, map, filter, replicate, get_or, Ok, Err, refl, sym, ap, ◌∙◌, subst, arith, append-nil, append_assoc, length-append, take_at}
 use Rattle.std.specs.List.{flat_map, concat, range_with_len}
 use Rattle.std.proofs.lemmas.Grind.{flat_map-append}
 use Rattle.std.proofs.lemmas.List.{take-append-le, get_or_append_left, get_or_at, get_or-map, map-append, length-map, take_all}
@@ -7,9 +7,9 @@ use Rattle.std.proofs.lemmas.List.Elements.{filter-append}
 use Rattle.sc_outside.specs.Ends.{IsPrefix, IsJob}
 use Rattle.sc_outside.proofs.EndsLaws.{IsPrefix-refl, IsPrefix-nil, IsJob-at_once}
 use Rattle.sc_rtpdump.specs.declared.kind.Kind.TheVariants.{Rtp}
-use Rattle.sc_rtpdump.specs.Record.{Record, empty_record, Front, ends, breaks, starts, front_of}
+use Rattle.sc_rtpdump.specs.Record.{Record, empty_record, short_head, short_length, cut_body, Front, ends, breaks, starts, front_of}
 use Rattle.sc_rtpdump.specs.Preamble.{IsPreamble, preamble_len}
-use Rattle.sc_rtpdump.specs.Capture.{Parts, parts_of, reads, no_preamble, reading_of}
+use Rattle.sc_rtpdump.specs.Capture.{Parts, parts_of, Reading, reads, no_preamble, reading_of}
 use Rattle.sc_rtpdump.proofs.CaptureLaws.{reading_of-preamble, reading_of-none}
 use Rattle.sc_rtpdump.proofs.GrowLaws.{parts_of-grows, begins_with}
 use Rattle.sc_field.specs.Gf256.{gf256_product}
@@ -18,9 +18,10 @@ use Rattle.sc_code.specs.declared.code.CodeFile.{CodeFile}
 use Rattle.sc_code.specs.Parity.{parity}
 use Rattle.sc_code.proofs.StreamLaws.{parity-append}
 use Rattle.sc_slots.specs.declared.protect.ProtectFault.{ProtectFault}
+use Rattle.sc_slots.specs.declared.protect.ProtectFault.TheVariants.{TooWide, Dump, TooManyRecords, TooLong, TooManySlots, Write, Memory}
 use Rattle.sc_slots.specs.Frame.{frame_bytes}
 use Rattle.sc_slots.specs.Slot.{Slot, slot_bytes}
-use Rattle.sc_slots.specs.Protected.{Protection, packet_len, protection_of, has_kind, rtp_part, blocks, stream, source_of, timestamp_of, slot_at, slot_text, slots_text, source_text, all_text, refusal, refusal_at, at_index, or_else, first_below, first_refused, due_behind, due_by, due_of, before_refused, accepted, text_so_far, protecting_by, protecting_within, protecting}
+use Rattle.sc_slots.specs.Protected.{Protection, packet_len, protection_of, has_kind, rtp_part, blocks, stream, source_of, timestamp_of, slot_at, slot_text, slots_text, source_text, all_text, refusal, refusal_at, at_index, or_else, first_below, first_refused, due_behind, due_by, due_of, before_refused, accepted, text_so_far, protecting_by, protecting_within, protecting, IsOfInput}
 use Rattle.sc_slots.specs.ProtectSteps.{source_stream, more_text, flush_text}
 
 -- ---- the RTP records
@@ -64,7 +65,7 @@ pub length-source_stream : (p : Protection) (rtp : List Record) → length (sour
 length-source_stream p rtp = length-map rtp (λ e. cut p.code.k p.m (frame_in p e))
 
 -- and their parities
-stream-parts : (p : Protection) (rtp : List Record) (more : List (List ℕ)) → map (cut p.code.k p.m) (map (frame_in p) rtp ++ more) ≡ source_stream p rtp ++ map (cut p.code.k p.m) more
+pub stream-parts : (p : Protection) (rtp : List Record) (more : List (List ℕ)) → map (cut p.code.k p.m) (map (frame_in p) rtp ++ more) ≡ source_stream p rtp ++ map (cut p.code.k p.m) more
 stream-parts p rtp more =
     map-append (cut p.code.k p.m) (map (frame_in p) rtp) more
     ∙ ap (λ l. l ++ map (cut p.code.k p.m) more) (map-map (cut p.code.k p.m) (frame_in p) rtp)
@@ -287,6 +288,20 @@ none_grows p pre es more tail (Some x) none is =
     front_refused p pre es more x.0
     (first_below-behind p (es ++ more) (length es) (length more) (length (es ++ more)) x (sym (length-append es more)) (first_below-front p es more (length es) (omega arith) ∙ none) is)
 
+-- or the source slots of more
+accepted_by : (p : Protection) (pre : List ℕ) (es more : List Record) (o : Option (ℕ × ProtectFault)) → first_refused p es ≡ None → first_refused p (es ++ more) ≡ o
+    → IsPrefix (pre ++ source_text p es) (pre ++ source_text p (before_refused (es ++ more) o))
+accepted_by p pre es more None none is = record {
+  rest = slots_text p (rtp_part es ++ rtp_part more) (length (rtp_part es)) (length (rtp_part more));
+  parts = ap (λ l. pre ++ l) (source_text-append p es more) ∙ sym (append_assoc pre (source_text p es) _);
+}
+accepted_by p pre es more (Some x) none is =
+    front_refused p pre es more x.0
+    (first_below-behind p (es ++ more) (length es) (length more) (length (es ++ more)) x (sym (length-append es more)) (first_below-front p es more (length es) (omega arith) ∙ none) is)
+
+pub accepted_front : (p : Protection) (pre : List ℕ) (es more : List Record) → first_refused p es ≡ None → IsPrefix (pre ++ source_text p es) (pre ++ source_text p (accepted p (es ++ more)))
+accepted_front p pre es more none = accepted_by p pre es more (first_refused p (es ++ more)) none refl
+
 -- what is due so far of records is a prefix of what is due with more of them, whatever is behind them
 records_grow : (p : Protection) (pre : List ℕ) (es more : List Record) (tail : List ℕ) (o : Option (ℕ × ProtectFault)) → first_refused p es ≡ o
     → IsPrefix (pre ++ source_text p (before_refused es o)) (due_by p pre (record { records = es ++ more; tail = tail }) (first_refused p (es ++ more))).text
@@ -332,3 +347,78 @@ within-IsJob false p = by-IsJob p
 
 pub protecting-IsJob : (file : CodeFile) (size : ℕ) → IsJob (protecting file size)
 protecting-IsJob file size = within-IsJob _ (protection_of file size)
+
+-- ---- what the input decides is none of the answers of the outside
+
+abbrev pub refusal_by : Bool → Bool → Bool → Bool → ℕ → ℕ → Option ProtectFault
+refusal_by a b c d index long = cond a (Some TooManyRecords) (cond b (cond c (Some (TooLong index long)) (cond d (Some TooManySlots) None)) None)
+
+pub refusal-is : (p : Protection) (index before : ℕ) (e : Record)
+    → refusal p index before e ≡ refusal_by (nat_le 8000000 index) (has_kind Rtp e) (nat_lt p.size (length e.body)) (nat_le (4000000 - p.deadline) before) index (length e.body)
+unfolding refusal
+refusal-is p index before e = refl
+
+-- the faults of records
+abbrev pub IsRefusal : ProtectFault → Type 0
+IsRefusal TooManyRecords = Unit {0}
+IsRefusal (TooLong index long) = Unit {0}
+IsRefusal TooManySlots = Unit {0}
+IsRefusal (TooWide bytes) = ⊥
+IsRefusal (Dump fault) = ⊥
+IsRefusal Write = ⊥
+IsRefusal Memory = ⊥
+
+refusal_of : (fault other : ProtectFault) → IsRefusal other → Some other ≡ Some fault → IsRefusal fault
+refusal_of fault other h e = let same : other ≡ fault = cc in subst IsRefusal same h
+
+by_refusal : (a b c d : Bool) (i l : ℕ) (fault : ProtectFault) → refusal_by a b c d i l ≡ Some fault → IsRefusal fault
+by_refusal true b c d i l fault h = refusal_of fault TooManyRecords tt h
+by_refusal false false c d i l fault h = absurd (cc)
+by_refusal false true true d i l fault h = refusal_of fault (TooLong i l) tt h
+by_refusal false true false true i l fault h = refusal_of fault TooManySlots tt h
+by_refusal false true false false i l fault h = absurd (cc)
+
+pub refusal-IsRefusal : (p : Protection) (index before : ℕ) (e : Record) (fault : ProtectFault) → refusal p index before e ≡ Some fault → IsRefusal fault
+refusal-IsRefusal p index before e fault h =
+    by_refusal (nat_le 8000000 index) (has_kind Rtp e) (nat_lt p.size (length e.body)) (nat_le (4000000 - p.deadline) before) index (length e.body) fault (sym (refusal-is p index before e) ∙ h)
+
+fault_by : (n : ℕ) (o : Option (ℕ × ProtectFault)) (r : Option ProtectFault) (x : ℕ × ProtectFault) → (o ≡ Some x → IsRefusal x.1) → ((f : ProtectFault) → r ≡ Some f → IsRefusal f) → or_else o (at_index n r) ≡ Some x → IsRefusal x.1
+fault_by n (Some y) r x h g e = h e
+fault_by n None (Some f) x h g e = let same : (n, f) ≡ x = cc in subst IsRefusal (ap (λ (y : ℕ × ProtectFault). y.1) same) (g f refl)
+fault_by n None None x h g e = absurd (cc)
+
+first_below-IsRefusal : (p : Protection) (es : List Record) (n : ℕ) (x : ℕ × ProtectFault) → first_below p es n ≡ Some x → IsRefusal x.1
+first_below-IsRefusal p es zero x e = absurd (cc)
+first_below-IsRefusal p es (suc n) x e =
+    fault_by n (first_below p es n) (refusal_at p es n) x (first_below-IsRefusal p es n x) (λ f h. refusal-IsRefusal p n (length (rtp_part (take n es))) (get_or es n empty_record) f h) e
+
+refusal_decided : (fault : ProtectFault) → IsRefusal fault → IsOfInput (Err fault)
+refusal_decided TooManyRecords h = tt
+refusal_decided (TooLong i l) h = tt
+refusal_decided TooManySlots h = tt
+refusal_decided (TooWide bytes) h = tt
+refusal_decided (Dump fault) h = absurd h
+refusal_decided Write h = absurd h
+refusal_decided Memory h = absurd h
+
+behind_decided : (p : Protection) (pre : List ℕ) (es : List Record) (front : Front) → IsOfInput (due_behind p pre es front).answer
+behind_decided p pre es (breaks short_head) = tt
+behind_decided p pre es (breaks short_length) = tt
+behind_decided p pre es (breaks cut_body) = tt
+behind_decided p pre es ends = tt
+behind_decided p pre es (starts e rest) = tt
+
+by_decided : (p : Protection) (pre : List ℕ) (parts : Parts) (o : Option (ℕ × ProtectFault)) → first_refused p parts.records ≡ o → IsOfInput (due_by p pre parts o).answer
+by_decided p pre parts None e = behind_decided p pre parts.records (front_of parts.tail)
+by_decided p pre parts (Some x) e = refusal_decided x.1 (first_below-IsRefusal p parts.records (length parts.records) x e)
+
+of_decided : (p : Protection) (reading : Reading) → IsOfInput (due_of p reading).answer
+of_decided p no_preamble = tt
+of_decided p (reads pre parts) = by_decided p pre parts (first_refused p parts.records) refl
+
+within_decided : (wide : Bool) (p : Protection) (input : List ℕ) → IsOfInput ((protecting_within wide p).whole input).answer
+within_decided true p input = tt
+within_decided false p input = of_decided p (reading_of input)
+
+pub protecting-decided : (file : CodeFile) (size : ℕ) (input : List ℕ) → IsOfInput ((protecting file size).whole input).answer
+protecting-decided file size input = within_decided _ (protection_of file size) input

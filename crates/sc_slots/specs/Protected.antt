@@ -5,7 +5,7 @@ use Rattle.std.specs.Prelude.{◌≡◌, ℕ, zero, suc, ◌+◌, ◌-◌, ◌*�
 use Rattle.std.specs.List.{flat_map, concat, range_with_len}
 use Rattle.sc_outside.specs.Ends.{Due, Job, only, at_once}
 use Rattle.sc_rtp.specs.Head.{head_of}
-use Rattle.sc_rtpdump.specs.declared.fault.DumpFault.TheVariants.{Preamble, Read}
+use Rattle.sc_rtpdump.specs.declared.fault.DumpFault.TheVariants.{Preamble, Read, Memory as NoRoom}
 use Rattle.sc_rtpdump.specs.declared.kind.Kind.{Kind}
 use Rattle.sc_rtpdump.specs.declared.kind.Kind.TheVariants.{Rtcp, Cut, Strange, Rtp}
 use Rattle.sc_rtpdump.specs.Record.{Record, empty_record, Front, ends, breaks, starts, front_of}
@@ -206,3 +206,13 @@ protecting_within false p = protecting_by p
 -- what protecting by a code file owes, with packets of at most so many bytes
 abbrev pub protecting : CodeFile → ℕ → Job (Result Protected ProtectFault)
 protecting file size = protecting_within (nat_lt 65527 (packet_len (protection_of file size))) (protection_of file size)
+
+-- The answers that the input decides: none of those where a read or a write failed, or memory ran out.
+abbrev pub IsOfInput : Result Protected ProtectFault → Type 0
+IsOfInput (Ok answer) = Unit {0}
+IsOfInput (Err (Dump Read)) = ⊥
+IsOfInput (Err (Dump NoRoom)) = ⊥
+IsOfInput (Err (Dump fault)) = Unit {0}
+IsOfInput (Err Write) = ⊥
+IsOfInput (Err Memory) = ⊥
+IsOfInput (Err fault) = Unit {0}

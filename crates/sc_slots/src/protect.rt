@@ -1,6 +1,6 @@
 //! Protecting a capture: its RTP records as the source slots of a stream, with a parity for each, and slots that flush the
 //! last blocks out.
-ghost use Rattle.std.specs.Prelude.{◌≡◌, ◌+◌, ◌-◌, ◌*◌, ◌<◌, ◌≤◌, ℕ, [], length, IfOk};
+ghost use Rattle.std.specs.Prelude.{◌≡◌, ◌+◌, ◌-◌, ◌*◌, ◌<◌, ◌≤◌, ℕ, List, false, [], length, IfOk};
 ghost use Rattle.sc_outside.specs.declared.pending.TheConstants.Pending.{ROOM};
 ghost use Rattle.sc_outside.specs.Ends.{IsJob, Ends};
 ghost use Rattle.sc_code.specs.declared.code.CodeFile.{CodeFile as CodeFileOf};
@@ -8,7 +8,7 @@ ghost use Rattle.sc_code.specs.Encoder.{StandsFor};
 ghost use Rattle.sc_rtp.specs.Head.{head_of};
 ghost use Rattle.sc_rtpdump.specs.Record.{IsRecord};
 ghost use Rattle.sc_rtpdump.specs.Kind.{kind};
-ghost use Rattle.sc_slots.specs.Protected.{protecting, protecting_by, protection_of};
+ghost use Rattle.sc_slots.specs.Protected.{IsOfInput, Protection, protecting, protecting_by, protection_of};
 ghost use Rattle.sc_slots.specs.ProtectSteps.{AreFew, Counts, FlushesGive, IsOf, Knows, LastGives, RecordsGive, RestGives, StepGives, fault_of, taken_of};
 
 use super::framing::width;
@@ -19,6 +19,12 @@ use sc_rtpdump::{DumpFault, DumpRecord, Kind, kind_of, next_record_behind, read_
 use std::alloc::Global;
 use std::error::Error;
 use std::fmt;
+
+/// The least size of a packet to protect, in bytes: that of the fixed head (RFC 3550, 5.1).
+pub const MIN_SIZE: u16 = 12;
+
+/// The greatest size of a packet to protect, in bytes.
+pub const MAX_SIZE: u16 = 1472;
 
 /// The most records of a capture.
 const MAX_RECORDS: u32 = 8_000_000;
@@ -318,8 +324,8 @@ fn put_flush<P: Port>(
 ) -> Result<(), Failed>
     requires few { taken.now.rtp ≤ MAX_RECORDS }
     requires code { maker.old.code ≡ file.now.code }
-    ensures { (size : ℕ) → IsOf (protection_of file.now size) maker.old
-        → FlushesGive (protection_of file.now size) (P.told port.old) (P.told port.new) taken.now maker.old pending.old pending.new result }
+    ensures { (p : Protection) → IsOf p maker.old → p.deadline ≡ file.now.channel.t
+        → FlushesGive p (P.told port.old) (P.told port.new) taken.now maker.old pending.old pending.new result }
 {
     let room = maker.slot_len();
     for j in 0..file.channel.t() {
@@ -343,8 +349,8 @@ fn put_last<P: Port>(
 ) -> Result<Protected, ProtectFault>
     requires few { AreFew MAX_RECORDS state.old.taken }
     requires code { state.old.maker.code ≡ file.now.code }
-    ensures { (size : ℕ) → IsOf (protection_of file.now size) state.old.maker
-        → LastGives (protection_of file.now size) (P.told port.old) (P.told port.new) state.old.taken state.old.maker state.old.pending result }
+    ensures { (p : Protection) → IsOf p state.old.maker → p.deadline ≡ file.now.channel.t
+        → LastGives p (P.told port.old) (P.told port.new) state.old.taken state.old.maker state.old.pending result }
 {
     let Ok(()) = put_flush(
         port,
@@ -435,9 +441,10 @@ pub fn protect_all<P: Port>(
     size: u16,
     port: &mut P,
 ) -> Result<Protected, ProtectFault>
-    requires least { 12 ≤ size }
-    requires greatest { size ≤ 1472 }
-    ensures { Ends (protecting file.now size) (P.told port.old) (P.told port.new) result }
+    requires least { MIN_SIZE ≤ size }
+    requires greatest { size ≤ MAX_SIZE }
+    ensures ends { Ends (protecting file.now size) (P.told port.old) (P.told port.new) result }
+    ensures untouched { (protecting file.now size).reads ≡ false → port.new ≡ port.old }
 {
     let m = width(size, file.code.k());
     let packet = PACKET_HEAD + (file.code.k() + file.code.r()) * m;
@@ -451,7 +458,8 @@ pub fn protect_all<P: Port>(
 }
 
 /// What protecting gives grows with what it has read: what is due for some bytes is a prefix of what is due for all that go
-/// on with them. It does nothing; its contract is the law.
+/// on with them. What the input decides is none of the answers of the outside. It does nothing; its contract is the law.
 pub fn protecting_is_a_job()
-    ensures { (file : CodeFileOf) (size : ℕ) → IsJob (protecting file size) }
+    ensures grows { (file : CodeFileOf) (size : ℕ) → IsJob (protecting file size) }
+    ensures decided { (file : CodeFileOf) (size : ℕ) (input : List ℕ) → IsOfInput ((protecting file size).whole input).answer }
 {}
