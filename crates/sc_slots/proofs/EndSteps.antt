@@ -1,5 +1,5 @@
 -- The steps of protecting: many records, and how the last of them ends the call.
-use Rattle.std.proofs.Common.{◌≡◌, ◌⊎◌, inl, inr, ℕ, ◌+◌, ◌-◌, ◌<◌, ◌≤◌, Bool, true, false, cond, Option, None, Some, List, [], ◌∷◌, ◌++◌, length, take, Result, Ok, Err, refl, sym, ap, ◌∙◌, subst, arith, append-nil, append_assoc, length-append, take_at}
+use Rattle.std.proofs.Common.{◌≡◌, ◌⊎◌, inl, inr, ℕ, ◌+◌, ◌-◌, ◌*◌, ◌<◌, ◌≤◌, Bool, true, false, cond, nat_lt, Option, None, Some, List, [], ◌∷◌, ◌++◌, length, take, Result, Ok, Err, refl, sym, ap, ◌∙◌, subst, arith, append-nil, append_assoc, length-append, take_at}
 use Rattle.std.specs.Io.KnownBytes.{IsAtEnd}
 use Rattle.std.specs.List.{AllByRecursion}
 use Rattle.sc_outside.specs.Ends.{IsPrefix, IsLeft, input, read, write, memory, Ends, IsShort}
@@ -7,7 +7,8 @@ use Rattle.sc_outside.specs.Faults.{Rose}
 use Rattle.sc_outside.specs.Pending.{FlushFailed}
 use Rattle.sc_outside.specs.Port.{Told, Moves, Takes, Puts}
 use Rattle.sc_outside.specs.Whole.{PutsAll, WriteFailed}
-use Rattle.sc_outside.proofs.EndsLaws.{IsPrefix-nil, some_left}
+use Rattle.std.proofs.lemmas.Bool.{lt-ltb, le-ltb}
+use Rattle.sc_outside.proofs.EndsLaws.{IsPrefix-nil, some_left, Ends-at_once, Ends-no_memory}
 use Rattle.sc_outside.proofs.FaultsLaws.{Rose-earlier}
 use Rattle.sc_outside.proofs.MovesLaws.{Moves-none, Moves-trans}
 use Rattle.sc_rtpdump.specs.declared.fault.DumpFault.{DumpFault}
@@ -16,19 +17,22 @@ use Rattle.sc_rtpdump.specs.Head.{StopsAt}
 use Rattle.sc_rtpdump.specs.Preamble.{IsPreamble, preamble_len, PreambleGives}
 use Rattle.sc_rtpdump.specs.Record.{Record, IsRecord, record_bytes, length_field, short_head, short_length, cut_body, Front, ends, breaks, starts, front_of}
 use Rattle.sc_rtpdump.specs.Capture.{records_bytes, Parts, reads, reading_of}
-use Rattle.sc_rtpdump.specs.Thin.{Carries, Loses}
+use Rattle.sc_rtpdump.specs.Thin.{Carries, Loses, StopsBehind}
 use Rattle.sc_rtpdump.proofs.CaptureLaws.{front_of-end, front_of-head, front_of-length, front_of-body, length_field-front, reading_of-none}
 use Rattle.sc_rtpdump.proofs.ThinLaws.{records_bytes-append}
 use Rattle.sc_rtpdump.proofs.ThinSteps.{StopsAt-earlier, StopsAt-later, All-append, stopped_reading, no_record, broken, below_none, at_end_left, reading_behind}
+use Rattle.sc_code.specs.declared.code.CodeFile.{CodeFile}
+use Rattle.sc_code.specs.Code.{Code}
 use Rattle.sc_code.specs.Encoder.{Encoder}
 use Rattle.sc_slots.specs.declared.protect.ProtectFault.{ProtectFault}
 use Rattle.sc_slots.specs.declared.protect.ProtectFault.TheVariants.{TooWide, Dump, TooManyRecords, TooLong, TooManySlots, Write, Memory}
 use Rattle.sc_slots.specs.declared.protect.Protected.{Protected}
 use Rattle.sc_slots.specs.declared.protect.Taken.{Taken}
-use Rattle.sc_slots.specs.Protected.{Protection, rtp_part, source_text, all_text, protected, refusal, first_refused, numbers, refused, due_behind, due_by, due_of, before_refused, accepted, text_so_far, protecting_by}
+use Rattle.sc_slots.specs.Frame.{width_of}
+use Rattle.sc_slots.specs.Protected.{Protection, protection_of, packet_len, too_wide, protecting_within, protecting, rtp_part, source_text, all_text, protected, refusal, first_refused, numbers, refused, due_behind, due_by, due_of, before_refused, accepted, text_so_far, protecting_by}
 use Rattle.sc_slots.specs.ProtectSteps.{Knows, IsOf, AreFew, more_text, IsRefusedNext, HaltsAt, HaltsBehind, TakesRecord, LosesSome, Reached, Passed, TakesAll, HaltsAfter, LosesAfter, GivesMore, LosesMore, flush_text, fault_of, numbers_of, taken_of, LastGives, GivesAll, LosesLast, RestGives}
 use Rattle.sc_slots.proofs.ProtectedLaws.{source_text-more, all_text-parts, first_refused-none, first_refused-next, accepted_front}
-use Rattle.sc_slots.proofs.TakeSteps.{refusal-write, few_of}
+use Rattle.sc_slots.proofs.TakeSteps.{refusal-write, refusal-many, few_of, record_refused, record_stopped}
 
 -- ---- so many records
 
@@ -82,14 +86,28 @@ Reached-carry p a b c es tail before after h x = record {
   parts = h.parts ∙ ap (λ l. h.put ++ l) (sym (append-nil before) ∙ x.parts) ∙ sym (append_assoc h.put x.put after);
 }
 
-pub takes_all : (p : Protection) (a b c : Told) (n : ℕ) (taken : Taken) (encoder : Encoder ℕ) (before after : List ℕ) → Passed p a b n taken encoder before → IsOf p encoder → Carries b c [] [] before after → IsAtEnd c.left
+pub takes_all : (p : Protection) (a b c : Told) (n : ℕ) (taken : Taken) (encoder : Encoder ℕ) (before after : List ℕ) → n ≤ 8000000 → Passed p a b n taken encoder before → IsOf p encoder → Carries b c [] [] before after → IsAtEnd c.left
     → TakesAll p a c taken encoder after
-takes_all p a b c n taken encoder before after x of y end = record {
+takes_all p a b c n taken encoder before after bound x of y end = record {
   n = n;
+  bound = bound;
   passed = record { records = x.records; count = x.count; knows = x.knows; reached = Reached-carry p a b c x.records [] before after x.reached y };
   is_of = of;
   end = end;
 }
+
+few_more : (n m : ℕ) (taken : Taken) → n ≤ m → AreFew n taken → AreFew m taken
+few_more n m taken h f = record { rtp = omega (arith, f.rtp); rtcp = omega (arith, f.rtcp); cut = omega (arith, f.cut); strange = omega (arith, f.strange) }
+
+pub all_few : (p : Protection) (a b : Told) (taken : Taken) (encoder : Encoder ℕ) (waiting : List ℕ) → TakesAll p a b taken encoder waiting → AreFew 8000000 taken
+all_few p a b taken encoder waiting x = few_more x.n 8000000 taken x.bound (Passed-few p a b x.n taken encoder waiting x.passed)
+
+-- the width is kept
+pub fits_kept : (p : Protection) (size : ℕ) (old new : Encoder ℕ) → IsOf p old → IsOf p new → size + 6 ≤ old.code.k * old.width → size + 6 ≤ new.code.k * new.width
+fits_kept p size old new x y h =
+    let k : old.code.k ≡ new.code.k = ap (λ (c : Code ℕ). c.k) (x.code ∙ sym y.code) in
+    let w : old.width ≡ new.width = x.width ∙ sym y.width in
+    subst (λ n. size + 6 ≤ n * new.width) k (subst (λ n. size + 6 ≤ old.code.k * n) w h)
 
 halts_earlier : (p : Protection) (index rtp : ℕ) (a b c : Told) (tail : List ℕ) (fault : ProtectFault) → a.read_faults ≤ b.read_faults → HaltsAt p index rtp b c tail fault → HaltsAt p index rtp a c tail fault
 halts_earlier p index rtp a b c tail (TooWide n) h s = s
@@ -130,6 +148,16 @@ loses_after p a b c n taken encoder before x l = record {
   short = l.2.short;
   rose = Rose-earlier _ _ _ x.reached.moves.write_faults l.2.rose;
 }
+
+-- a whole record behind 8,000,000 others
+pub too_many : (p : Protection) (a b c : Told) (n : ℕ) (taken : Taken) (encoder : Encoder ℕ) (e : Record) (before after : List ℕ) → 8000000 ≤ n → Passed p a b n taken encoder before → IsRecord e
+    → Carries b c (record_bytes e) [] before after → HaltsAfter p a c after TooManyRecords
+too_many p a b c n taken encoder e before after many x fits y =
+    halts_after p a b c n taken encoder before after TooManyRecords x (record_refused p n taken.rtp b c e before after after TooManyRecords fits y (refusal-many p n taken.rtp e many) refl)
+
+pub stops_after : (p : Protection) (a b c : Told) (n : ℕ) (taken : Taken) (encoder : Encoder ℕ) (before after : List ℕ) (fault : DumpFault) → Passed p a b n taken encoder before → StopsBehind n b c before after fault
+    → HaltsAfter p a c after (Dump fault)
+stops_after p a b c n taken encoder before after fault x s = halts_after p a b c n taken encoder before after (Dump fault) x (record_stopped p n taken.rtp b c before after fault s)
 
 -- ---- what waited
 
@@ -457,3 +485,33 @@ preamble_end p a b NoRoom h = record {
 preamble_end p a b (RecordHead i) h = absurd h
 preamble_end p a b (RecordLength i) h = absurd h
 preamble_end p a b (Truncated i) h = absurd h
+
+-- ---- before anything is read
+
+pub packet_is : (file : CodeFile) (size k k' r m : ℕ) → k ≡ file.code.k → k' ≡ file.code.k → r ≡ file.code.r → m ≡ width_of size k → 24 + (k' + r) * m ≡ packet_len (protection_of file size)
+packet_is file size k k' r m ek ek' er em =
+    ap (λ n. 24 + (n + r) * m) ek' ∙ ap (λ n. 24 + (file.code.k + n) * m) er ∙ ap (λ n. 24 + (file.code.k + file.code.r) * n) (em ∙ ap (width_of size) ek)
+
+pub wide_end : (file : CodeFile) (size packet : ℕ) (a : Told) → packet ≡ packet_len (protection_of file size) → 65527 < packet → Ends (protecting file size) a a (Err (TooWide packet))
+wide_end file size packet a e wide =
+    let p = protection_of file size in
+    let test : nat_lt 65527 (packet_len (protection_of file size)) ≡ true = lt-ltb 65527 (packet_len p) (omega (arith, e, wide)) in
+    subst (λ b. Ends (protecting_within b p) a a (Err (TooWide packet))) (sym test)
+    (subst (λ n. Ends (too_wide p) a a (Err (TooWide n))) (sym e) (Ends-at_once (Err (TooWide (packet_len p))) _ _ _ false a))
+
+pub narrow_end : (file : CodeFile) (size packet : ℕ) (a b : Told) (result : Result Protected ProtectFault) → packet ≡ packet_len (protection_of file size) → packet ≤ 65527
+    → Ends (protecting_by (protection_of file size)) a b result → Ends (protecting file size) a b result
+narrow_end file size packet a b result e narrow x =
+    let p = protection_of file size in
+    let test : nat_lt 65527 (packet_len (protection_of file size)) ≡ false = le-ltb 65527 (packet_len p) (omega (arith, e, narrow)) in
+    subst (λ t. Ends (protecting_within t p) a b result) (sym test) x
+
+pub no_memory_end : (file : CodeFile) (size packet : ℕ) (a : Told) → packet ≡ packet_len (protection_of file size) → packet ≤ 65527 → Ends (protecting file size) a a (Err Memory)
+no_memory_end file size packet a e narrow = narrow_end file size packet a a (Err Memory) e narrow (Ends-no_memory (protecting_by (protection_of file size)) a refl)
+
+-- the port is left alone only where the packet is too wide
+pub reads_there : (file : CodeFile) (size packet : ℕ) → packet ≡ packet_len (protection_of file size) → packet ≤ 65527 → (protecting file size).reads ≡ false → ⊥
+reads_there file size packet e narrow h =
+    let p = protection_of file size in
+    let test : nat_lt 65527 (packet_len (protection_of file size)) ≡ false = le-ltb 65527 (packet_len p) (omega (arith, e, narrow)) in
+    let no : true ≡ false = ap (λ t. (protecting_within t p).reads) (sym test) ∙ h in cc

@@ -100,7 +100,7 @@ pub flush_slot : (p : Protection) (rtp : List Record) (j n time off : ℕ) → j
 unfolding next_text slot_text
 flush_slot p rtp j n time off h en et eo =
     let t = length rtp + j in
-    let zeros = replicate (p.code.k * p.m) 0 in
+    let zeros : List ℕ = replicate (p.code.k * p.m) 0 in
     let xs = flush_stream p rtp j in
     let place : min (length rtp + j) (length rtp - 1) ≡ length rtp - 1 = omega arith in
     let source : source_of rtp (length rtp + j) ≡ last_source rtp = ap (λ i. get_or rtp i empty_record) place in

@@ -175,6 +175,7 @@ pub record Passed (p : Protection) (old new : Told) (n : ℕ) (taken : Taken) (e
 -- all of them were taken
 pub record TakesAll (p : Protection) (old new : Told) (taken : Taken) (encoder : Encoder ℕ) (waiting : List ℕ) : Type 0 where
   pub n : ℕ
+  pub bound : n ≤ 8000000
   pub passed : Passed p old new n taken encoder waiting
   pub is_of : IsOf p encoder
   pub end : IsAtEnd new.left
