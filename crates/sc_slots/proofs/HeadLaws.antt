@@ -1,5 +1,7 @@
 -- The head of a protected packet, and the 24 bytes that spell it.
-use Rattle.std.proofs.Common.{◌≡◌, ℕ, ◌+◌, ◌%◌, ◌^◌, ◌<◌, ◌≤◌, List, [], ◌∷◌, ◌++◌, length, take, drop, get_or, codes, refl, sym, ap, ◌∙◌, arith, length-append}
+use Rattle.std.proofs.Common.{◌≡◌, ℕ, Bool, true, false, not, bytes_eq, ◌+◌, ◌%◌, ◌^◌, ◌<◌, ◌≤◌, List, [], ◌∷◌, ◌++◌, length, take, drop, get_or, codes, refl, sym, ap, ◌∙◌, arith, length-append}
+use Rattle.std.proofs.lemmas.Bool.{both_ways, not-true, not-false}
+use Rattle.std.proofs.lemmas.Slice.Eq.{bytes_eq-Decides}
 use Rattle.std.proofs.lemmas.Nat.{from_be_bytes-to_be_bytes_2, from_be_bytes-to_be_bytes_4}
 use Rattle.std.specs.Int.{w16, w32, to_be_bytes}
 use Rattle.sc_rtp.specs.Reading.{AreBytes}
@@ -12,6 +14,13 @@ first_bytes = 128 ∷ 96 ∷ []
 
 abbrev pub mark_bytes : List ℕ
 mark_bytes = 83 ∷ 67 ∷ 68 ∷ 49 ∷ 83 ∷ 67 ∷ 1 ∷ []
+
+-- what a test that bytes differ says
+pub differs : (xs ys : List ℕ) → true ≡ not (bytes_eq xs ys) → xs ≡ ys → ⊥
+differs xs ys d e = both_ways (bytes_eq xs ys) (not-true (bytes_eq xs ys) (sym d)) ((bytes_eq-Decides xs ys).1 e)
+
+pub agrees : (xs ys : List ℕ) → false ≡ not (bytes_eq xs ys) → xs ≡ ys
+agrees xs ys d = (bytes_eq-Decides xs ys).0 (not-false (bytes_eq xs ys) (sym d))
 
 -- ---- what is spelled is read
 
@@ -46,7 +55,7 @@ marks-spelled h rest = refl
 
 pub length-slot_head_bytes : (h : SlotHead) (rest : List ℕ) → length (slot_head_bytes h ++ rest) ≡ 24 + length rest
 unfolding slot_head_bytes
-length-slot_head_bytes h rest = refl
+length-slot_head_bytes h rest = omega arith
 
 pub no_head-short : (bytes rest : List ℕ) (h : SlotHead) → length bytes < 24 → bytes ≡ slot_head_bytes h ++ rest → ⊥
 no_head-short bytes rest h short e = omega (arith, short, ap length e ∙ length-slot_head_bytes h rest)
@@ -100,7 +109,8 @@ slot_head_bytes-of bytes are size first marks =
     let m = to_be_bytes-number16 (g 18 0) (g 19 0) (are 18) (are 19) in
     let number = to_be_bytes-number32 (g 20 0) (g 21 0) (g 22 0) (g 23 0) (are 20) (are 21) (are 22) (are 23) in
     let h = slot_head_of bytes in
-    spelled-parts h rest
+    let spelled = spelled-parts h rest in
+    spelled
     ∙ ap (λ (l : List ℕ). parts first_bytes l (to_be_bytes w32 h.timestamp) mark_bytes (h.k ∷ []) (h.r ∷ []) (h.end ∷ []) (to_be_bytes w16 h.m) (to_be_bytes w32 h.number) rest) sequence
     ∙ ap (λ (l : List ℕ). parts first_bytes (g 2 0 ∷ g 3 0 ∷ []) l mark_bytes (h.k ∷ []) (h.r ∷ []) (h.end ∷ []) (to_be_bytes w16 h.m) (to_be_bytes w32 h.number) rest) timestamp
     ∙ ap (λ (l : List ℕ). parts first_bytes (g 2 0 ∷ g 3 0 ∷ []) (g 4 0 ∷ g 5 0 ∷ g 6 0 ∷ g 7 0 ∷ []) mark_bytes (h.k ∷ []) (h.r ∷ []) (h.end ∷ []) l (to_be_bytes w32 h.number) rest) m

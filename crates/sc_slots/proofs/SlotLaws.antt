@@ -1,17 +1,18 @@
 -- Protected packets and what they are read as.
-use Rattle.std.proofs.Common.{◌≡◌, ◌≢◌, ◌⊎◌, inl, inr, ℕ, ◌+◌, ◌*◌, ◌%◌, ◌^◌, ◌<◌, ◌≤◌, ◌==◌, nat_lt, false, List, ◌++◌, length, take, drop, refl, sym, ap, ◌∙◌, subst, arith, append_assoc, length-append}
-use Rattle.std.proofs.lemmas.Bool.{cases_Bool, eqb-true, eqb-false}
+use Rattle.std.proofs.Common.{◌≡◌, ◌≢◌, ◌⊎◌, inl, inr, ℕ, ◌+◌, ◌*◌, ◌%◌, ◌^◌, ◌<◌, ◌≤◌, ◌==◌, nat_lt, false, codes, List, [], ◌∷◌, ◌++◌, length, take, drop, refl, sym, ap, ◌∙◌, subst, arith, append_assoc, length-append}
+use Rattle.std.proofs.lemmas.Bool.{cases_Bool, eqb-true, eqb-false, ltb-true, ltb-false}
 use Rattle.std.proofs.lemmas.Bool.Decides.{nat_tests}
 use Rattle.std.proofs.lemmas.List.{take_at, drop_at, take-append-drop, length-take-le, length-drop}
+use Rattle.std.specs.Int.{w16, w32, to_be_bytes}
 use Rattle.sc_rtp.specs.Packet.{plain_head}
 use Rattle.sc_rtp.proofs.ReadingLaws.{reading_of-plain}
 use Rattle.sc_rtpdump.specs.declared.kind.Kind.TheVariants.{Rtp}
 use Rattle.sc_rtpdump.specs.Kind.{kind, kind_read}
 use Rattle.sc_rtpdump.specs.Record.{Record, IsRecord, record_bytes, head_bytes}
 use Rattle.sc_slots.specs.Frame.{IsBlank}
-use Rattle.sc_slots.specs.Slot.{Slot, SlotHead, FitsFields, FitsSlot, FitsPacket, IsProtected, HasBadShape, IsSlot, IsSlotRecord, Reading, stranger, wrong_code, bad_shape, slot, ReadsAs, Flaw, no_width, other_length, other_sequence, end_above_deadline, end_above_number, flush_with_block, slot_head_bytes, slot_head_of, head_of_slot, slot_packet, slot_record, slot_bytes, slot_behind}
+use Rattle.sc_slots.specs.Slot.{Slot, SlotHead, FitsFields, FitsSlot, FitsPacket, IsProtected, HasFlaw, HasBadShape, IsSlot, IsSlotRecord, Reading, stranger, wrong_code, bad_shape, slot, ReadsAs, Flaw, no_width, other_length, other_sequence, end_above_deadline, end_above_number, flush_with_block, slot_head_bytes, slot_head_of, head_of_slot, slot_packet, slot_record, slot_bytes, slot_behind}
 use Rattle.sc_slots.proofs.BlankLaws.{blank-stable}
-use Rattle.sc_slots.proofs.HeadLaws.{slot_head_of-spelled, behind-spelled, length-slot_head_bytes}
+use Rattle.sc_slots.proofs.HeadLaws.{same_head, slot_head_of-spelled, behind-spelled, length-slot_head_bytes}
 
 -- ---- how a slot is written
 
@@ -84,19 +85,22 @@ same_slot n e m t b p s a c d f i j = cc
 
 slot_behind-parts : (k : ℕ) (r : ℕ) (s : Slot) → FitsPacket k r s → slot_behind k (head_of_slot k r s) (s.block ++ s.parity) ≡ s
 slot_behind-parts k r s fits =
-    same_slot _ _ _ _ _ _ s refl refl refl refl
-    (take_at s.block s.parity (k * s.m) fits.block)
-    (drop_at s.block s.parity (k * s.m) fits.block)
+    let front = take_at s.block s.parity (k * s.m) fits.block in
+    let back = drop_at s.block s.parity (k * s.m) fits.block in
+    let same = same_slot _ _ _ _ _ _ s refl refl refl refl front back in
+    same
 
 -- a protected packet that is whole is of the kind Rtp
 slot_kind : (k r offset : ℕ) (s : Slot) → FitsSlot s → kind (slot_record k r offset s) ≡ Rtp
 unfolding kind slot_packet slot_head_bytes
 slot_kind k r offset s fits =
     let packet = slot_packet k r s in
-    let behind : length (slot_packet k r s) ≡ 24 + length (s.block ++ s.parity) = refl in
+    let behind : length (slot_packet k r s) ≡ 24 + length (s.block ++ s.parity) = length-slot_head_bytes (head_of_slot k r s) (s.block ++ s.parity) in
     let there : (length (slot_packet k r s) == 0) ≡ false = grind (arith, nat_tests) in
     let whole : nat_lt (length (slot_packet k r s)) (length (slot_packet k r s)) ≡ false = grind (arith, nat_tests) in
-    let read = reading_of-plain 96 (s.number % 65536) s.timestamp 0x53434431 _ (omega arith) (omega arith) fits.timestamp (omega arith) in
+    let payload : List ℕ =
+    (codes "SC" ++ (1 ∷ k ∷ r ∷ s.end ∷ [] ++ (to_be_bytes w16 s.m ++ to_be_bytes w32 s.number))) ++ (s.block ++ s.parity) in
+    let read = reading_of-plain 96 (s.number % 65536) s.timestamp 0x53434431 payload (omega arith) (omega arith) fits.timestamp (omega arith) in
     rw (there, whole) (ap kind_read read)
 
 head_of_slot-fits : (k r : ℕ) (s : Slot) → k < 256 → r < 256 → FitsSlot s → FitsFields (head_of_slot k r s)
@@ -121,18 +125,20 @@ slot_protected k r offset s small_k small_r fits = record {
 pub slot-there : (k r deadline offset : ℕ) (s : Slot) → k < 256 → r < 256 → FitsSlot s → FitsPacket k r s
     → (HasBadShape k r deadline (head_of_slot k r s) (s.block ++ s.parity) → ⊥) → ReadsAs k r deadline (slot_record k r offset s) (slot s)
 slot-there k r deadline offset s small_k small_r fits packet hasnt =
-    (head_of_slot k r s, (s.block ++ s.parity, (slot_protected k r offset s small_k small_r fits, (refl, (refl, (hasnt, sym (slot_behind-parts k r s packet)))))))
+    (head_of_slot k r s, s.block ++ s.parity, slot_protected k r offset s small_k small_r fits, refl, refl, hasnt, sym (slot_behind-parts k r s packet))
 
 -- a well shaped slot has no flaw
-no_flaw : (k r deadline : ℕ) (s : Slot) → IsSlot k r deadline s → HasBadShape k r deadline (head_of_slot k r s) (s.block ++ s.parity) → ⊥
-no_flaw k r deadline s is (record { flaw = no_width; has = h }) = omega (arith, h, is.some)
-no_flaw k r deadline s is (record { flaw = other_length; has = h }) =
-    h (omega (arith, length-append s.block s.parity, is.packet.block, is.packet.parity))
-no_flaw k r deadline s is (record { flaw = other_sequence; has = h }) = h refl
-no_flaw k r deadline s is (record { flaw = end_above_deadline; has = h }) = omega (arith, h, is.by_deadline)
-no_flaw k r deadline s is (record { flaw = end_above_number; has = h }) = omega (arith, h, is.by_number)
-no_flaw k r deadline s is (record { flaw = flush_with_block; has = h }) =
+flawless : (k r deadline : ℕ) (s : Slot) → IsSlot k r deadline s → (f : Flaw) → HasFlaw k r deadline (head_of_slot k r s) (s.block ++ s.parity) f → ⊥
+flawless k r deadline s is no_width h = omega (arith, h, is.some)
+flawless k r deadline s is other_length h = h (omega (arith, length-append s.block s.parity, is.packet.block, is.packet.parity))
+flawless k r deadline s is other_sequence h = h refl
+flawless k r deadline s is end_above_deadline h = omega (arith, h, is.by_deadline)
+flawless k r deadline s is end_above_number h = omega (arith, h, is.by_number)
+flawless k r deadline s is flush_with_block h =
     h.1 (subst IsBlank (sym (take_at s.block s.parity (k * s.m) is.packet.block)) (is.flush h.0))
+
+no_flaw : (k r deadline : ℕ) (s : Slot) → IsSlot k r deadline s → HasBadShape k r deadline (head_of_slot k r s) (s.block ++ s.parity) → ⊥
+no_flaw k r deadline s is x = flawless k r deadline s is x.flaw x.has
 
 pub well_shaped-there : (k r deadline offset : ℕ) (s : Slot) → k < 256 → r < 256 → IsSlot k r deadline s → ReadsAs k r deadline (slot_record k r offset s) (slot s)
 well_shaped-there k r deadline offset s small_k small_r is = slot-there k r deadline offset s small_k small_r is.fits is.packet (no_flaw k r deadline s is)
@@ -142,6 +148,63 @@ well_shaped-there k r deadline offset s small_k small_r is = slot-there k r dead
 equal-stable : (a b : ℕ) → (a ≢ b → ⊥) → a ≡ b
 equal-stable a b wrong = elim (cases_Bool (a == b)) [ inl t ↦ eqb-true a b t | inr f ↦ absurd (wrong (eqb-false a b f)) ]
 
-module _ (k r deadline : ℕ) (h : SlotHead) (rest : List ℕ) (hasnt : HasBadShape k r deadline h rest → ⊥) where
-  sound : (f : Flaw) → HasFlaw k r deadline h rest f → ⊥
-  sound f x = hasnt (record { flaw = f; has = x })
+le-stable : (a b : ℕ) → (b < a → ⊥) → a ≤ b
+le-stable a b wrong = elim (cases_Bool (nat_lt b a)) [ inl t ↦ absurd (wrong (ltb-true b a t)) | inr f ↦ ltb-false b a f ]
+
+sound : (k r deadline : ℕ) (h : SlotHead) (rest : List ℕ) → (HasBadShape k r deadline h rest → ⊥) → (f : Flaw) → HasFlaw k r deadline h rest f → ⊥
+sound k r deadline h rest hasnt f x = hasnt (record { flaw = f; has = x })
+
+-- a record of the kind Rtp has the whole packet
+kind_plen : (e : Record) → kind e ≡ Rtp → e.plen ≡ length e.body
+unfolding kind
+kind_plen e is = grind (arith, nat_tests)
+
+-- what is behind a head without a flaw makes a slot
+slot_behind-shape : (k r deadline : ℕ) (e : Record) (h : SlotHead) (rest : List ℕ) → IsRecord e → IsProtected e h rest
+    → (HasBadShape k r deadline h rest → ⊥) → IsSlot k r deadline (slot_behind k h rest)
+slot_behind-shape k r deadline e h rest is p hasnt =
+    let none = sound k r deadline h rest hasnt in
+    let long : 24 + length rest ≡ 24 + (k + r) * h.m = equal-stable (24 + length rest) (24 + (k + r) * h.m) (none other_length) in
+    let whole : length e.body ≡ 24 + length rest = ap length p.parts ∙ length-slot_head_bytes h rest in
+    let width : h.m ≢ 0 = none no_width in
+    record {
+      fits = record { number = p.fits.number; end = p.fits.end; m = p.fits.m; timestamp = p.fits.timestamp };
+      packet = record {
+        block = length-take-le (k * h.m) rest (omega (arith, long));
+        parity = omega (arith, length-drop (k * h.m) rest, long);
+        limit = omega (arith, long, whole, is.body);
+      };
+      some = omega (arith, width);
+      by_deadline = le-stable h.end deadline (none end_above_deadline);
+      by_number = le-stable h.end (h.number + 1) (none end_above_number);
+      flush = λ ends. blank-stable (take (k * h.m) rest) (λ other. none flush_with_block (ends, other));
+    }
+
+head_of_slot-behind : (k r : ℕ) (h : SlotHead) (rest : List ℕ) → h.k ≡ k → h.r ≡ r → h.sequence ≡ h.number % 65536 → head_of_slot k r (slot_behind k h rest) ≡ h
+head_of_slot-behind k r h rest is_k is_r sequence = same_head _ _ _ _ _ _ _ h (sym sequence) refl (sym is_k) (sym is_r) refl refl refl
+
+slot_packet-behind : (k r : ℕ) (h : SlotHead) (rest : List ℕ) → head_of_slot k r (slot_behind k h rest) ≡ h
+    → slot_packet k r (slot_behind k h rest) ≡ slot_head_bytes h ++ rest
+unfolding slot_packet
+slot_packet-behind k r h rest same =
+    ap (λ (g : SlotHead). slot_head_bytes g ++ (take (k * h.m) rest ++ drop (k * h.m) rest)) same
+    ∙ ap (λ (l : List ℕ). slot_head_bytes h ++ l) (take-append-drop (k * h.m) rest)
+
+slot_record-is : (k r : ℕ) (e : Record) (s : Slot) → e.plen ≡ length e.body → slot_packet k r s ≡ e.body → e ≡ slot_record k r e.offset s
+slot_record-is k r e s whole packet =
+    ap (λ (n : ℕ). let x : Record = record { plen = n; offset = e.offset; body = e.body } in x) whole
+    ∙ ap (λ (l : List ℕ). let x : Record = record { plen = length l; offset = e.offset; body = l } in x) (sym packet)
+
+pub slot_behind-record : (k r deadline : ℕ) (e : Record) (h : SlotHead) (rest : List ℕ) → IsRecord e → IsProtected e h rest → h.k ≡ k → h.r ≡ r
+    → (HasBadShape k r deadline h rest → ⊥) → IsSlotRecord k r deadline e (slot_behind k h rest)
+slot_behind-record k r deadline e h rest is p is_k is_r hasnt =
+    let sequence = equal-stable h.sequence (h.number % 65536) (sound k r deadline h rest hasnt other_sequence) in
+    record {
+      is = slot_behind-shape k r deadline e h rest is p hasnt;
+      spelled = slot_record-is k r e (slot_behind k h rest) (kind_plen e p.kind_is)
+          (slot_packet-behind k r h rest (head_of_slot-behind k r h rest is_k is_r sequence) ∙ sym p.parts);
+    }
+
+pub slot-read : (k r deadline : ℕ) (e : Record) (s : Slot) → IsRecord e → ReadsAs k r deadline e (slot s) → IsSlotRecord k r deadline e s
+slot-read k r deadline e s is x =
+    subst (IsSlotRecord k r deadline e) (sym x.6) (slot_behind-record k r deadline e x.0 x.1 is x.2 x.3 x.4 x.5)

@@ -18,3 +18,6 @@ pub use protect::{
 };
 pub use slot::{Slot, SlotReading, read_slot, slot_head, write_slot};
 pub use unframing::{BadBlock, Frame, unframe};
+
+#[cfg(test)]
+mod tests;

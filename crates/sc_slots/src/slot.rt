@@ -1,8 +1,8 @@
 //! Protected packets: how a slot stands in an RTP packet and in a record of a capture.
-ghost use Rattle.std.specs.Prelude.{◌≡◌, ◌+◌, ◌≤◌, ◌++◌, OnOk, OnErr};
+ghost use Rattle.std.specs.Prelude.{◌≡◌, ◌+◌, ◌*◌, ◌<◌, ◌≤◌, ◌++◌, List, ℕ, length, IfSome, IfNone, OnOk, OnErr};
 ghost use Rattle.sc_outside.specs.Whole.{PutsAll, WriteFailed};
-ghost use Rattle.sc_slots.specs.Slot.{FitsPacket, ReadsAs, SlotIsWellShaped, slot_bytes};
-ghost use Rattle.sc_slots.specs.Answers.{reading, slot_in};
+ghost use Rattle.sc_slots.specs.Slot.{FitsPacket, IsProtected, ReadsAs, SlotHead as Meaning, SlotIsWellShaped, slot_behind, slot_bytes};
+ghost use Rattle.sc_slots.specs.Answers.{head_in, reading, slot_in};
 
 use super::head::{HEAD, SlotHead};
 use sc_outside::{Failed, Port, write_whole};
@@ -93,17 +93,41 @@ pub fn write_slot<P: Port>(
     write_whole(port, slot.parity)
 }
 
+/// The slot of a head and what is behind it.
+fn slot_of<'a>(head: SlotHead, rest: &'a [u8], k: usize) -> Slot<'a>
+    requires symbols { k < 256 }
+    requires size { k * head.m ≤ length rest.now }
+    ensures { slot_in result ≡ slot_behind k (head_in head) rest.now }
+{
+    let size = k * usize::from(head.m);
+    Slot {
+        number: head.number,
+        end: head.end,
+        m: head.m,
+        timestamp: head.timestamp,
+        block: &rest[..size],
+        parity: &rest[size..],
+    }
+}
+
+/// The head of a protected packet and what is behind it; `None` exactly where the record is a stranger.
+fn protected(rec: &DumpRecord) -> Option<(SlotHead, &[u8])>
+    ensures some { IfSome result (λ p. IsProtected rec.now (head_in p.0) p.1.now) }
+    ensures none { IfNone result ((h : Meaning) (rest : List ℕ) → IsProtected rec.now h rest → ⊥) }
+{
+    match kind_of(rec) {
+        Kind::Rtp => SlotHead::split_from(rec.body()),
+        Kind::Rtcp | Kind::Cut | Kind::Strange => None,
+    }
+}
+
 /// Reads a record as a slot of a code with `k` and `r` and of a channel with this deadline. The RTP timestamp isn't tested.
 /// It takes no memory.
 pub fn read_slot<'a>(rec: &'a DumpRecord, k: usize, r: usize, deadline: u32) -> SlotReading<'a>
     ensures reads { ReadsAs k r deadline rec.now (reading result) }
     ensures slot { SlotIsWellShaped k r deadline rec.now (reading result) }
 {
-    match kind_of(rec) {
-        Kind::Rtp => {}
-        Kind::Rtcp | Kind::Cut | Kind::Strange => return SlotReading::Stranger,
-    }
-    let Some((head, rest)) = SlotHead::split_from(rec.body()) else {
+    let Some((head, rest)) = protected(rec) else {
         return SlotReading::Stranger;
     };
     if usize::from(head.k) != k {
@@ -115,13 +139,7 @@ pub fn read_slot<'a>(rec: &'a DumpRecord, k: usize, r: usize, deadline: u32) -> 
     if head.has_bad_shape(rest, k, r, deadline) {
         return SlotReading::BadShape;
     }
-    let size = k * usize::from(head.m);
-    SlotReading::Slot(Slot {
-        number: head.number,
-        end: head.end,
-        m: head.m,
-        timestamp: head.timestamp,
-        block: &rest[..size],
-        parity: &rest[size..],
-    })
+    // that the record fits, and so the packet, is what this call says
+    let _whole = rec.bytes();
+    SlotReading::Slot(slot_of(head, rest, k))
 }
