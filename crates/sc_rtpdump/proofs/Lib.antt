@@ -8,3 +8,4 @@ pub mod ReadingLaws
 pub mod GrowLaws
 pub mod ThinLaws
 pub mod ThinSteps
+pub mod BehindSteps

@@ -159,7 +159,7 @@ body_taken index lost head a b c before after now (Err fault) x y =
 
 -- ---- where the reading of a record stopped
 
-StopsAt-later : (index : ℕ) (a b c : Told) (tail put : List ℕ) (fault : DumpFault) → Puts b c put → StopsAt index a b tail fault → StopsAt index a c tail fault
+pub StopsAt-later : (index : ℕ) (a b c : Told) (tail put : List ℕ) (fault : DumpFault) → Puts b c put → StopsAt index a b tail fault → StopsAt index a c tail fault
 StopsAt-later index a b c tail put (RecordHead i) p s = (s.0, s.1, subst IsAtEnd (sym p.left) s.2)
 StopsAt-later index a b c tail put (RecordLength i) p s = s
 StopsAt-later index a b c tail put (Truncated i) p s = (s.0, s.1, subst IsAtEnd (sym p.left) s.2)
@@ -187,7 +187,7 @@ Reached-none flags a waiting e = record {
   parts = ap records_bytes (kept-none flags) ∙ sym e;
 }
 
-All-append : (es : List Record) (e : Record) → AllByRecursion IsRecord es → IsRecord e → AllByRecursion IsRecord (es ++ e ∷ [])
+pub All-append : (es : List Record) (e : Record) → AllByRecursion IsRecord es → IsRecord e → AllByRecursion IsRecord (es ++ e ∷ [])
 All-append [] e h g = (g, tt)
 All-append (x ∷ es) e h g = (h.0, All-append es e h.1 g)
 
@@ -286,15 +286,15 @@ count_more flags i within lost now so_far (inr clear) = omega (arith, count_by_m
 -- ---- the end of the call
 
 -- whole records and a tail that begins with none, behind a preamble
-stopped_reading : (pre tail : List ℕ) (es : List Record) → IsPreamble pre → AllByRecursion IsRecord es → ((e : Record) (rest : List ℕ) → front_of tail ≡ starts e rest → ⊥)
+pub stopped_reading : (pre tail : List ℕ) (es : List Record) → IsPreamble pre → AllByRecursion IsRecord es → ((e : Record) (rest : List ℕ) → front_of tail ≡ starts e rest → ⊥)
     → reading_of (pre ++ (records_bytes es ++ tail)) ≡ reads pre (record { records = es; tail = tail })
 stopped_reading pre tail es h fit none =
     reading_of-only _ pre (record { records = es; tail = tail }) (record { preamble_is = h; records_are = fit; spelled = refl; ended = none })
 
-no_record : (tail : List ℕ) (front : Front) → front_of tail ≡ front → ((e : Record) (rest : List ℕ) → front ≡ starts e rest → ⊥) → (e : Record) (rest : List ℕ) → front_of tail ≡ starts e rest → ⊥
+pub no_record : (tail : List ℕ) (front : Front) → front_of tail ≡ front → ((e : Record) (rest : List ℕ) → front ≡ starts e rest → ⊥) → (e : Record) (rest : List ℕ) → front_of tail ≡ starts e rest → ⊥
 no_record tail front at h e rest found = h e rest (sym at ∙ found)
 
-broken : (tail : List ℕ) (break : Break) → front_of tail ≡ breaks break → (e : Record) (rest : List ℕ) → front_of tail ≡ starts e rest → ⊥
+pub broken : (tail : List ℕ) (break : Break) → front_of tail ≡ breaks break → (e : Record) (rest : List ℕ) → front_of tail ≡ starts e rest → ⊥
 broken tail break at = no_record tail (breaks break) at (λ e rest h. cc)
 
 -- how thinning ends there
@@ -311,16 +311,16 @@ text_there : (flags : List Bool) (pre tail : List ℕ) (es : List Record) → Is
 text_there flags pre tail es h fit none = ap (thin_text flags) (stopped_reading pre tail es h fit none)
 
 -- whole records and anything behind them
-record Behind (flags : List Bool) (pre more : List ℕ) (es : List Record) : Type 0 where
-  others : List Record
-  tail : List ℕ
-  is : reading_of (pre ++ (records_bytes es ++ more)) ≡ reads pre (record { records = es ++ others; tail = tail })
+pub record Behind (pre more : List ℕ) (es : List Record) : Type 0 where
+  pub others : List Record
+  pub tail : List ℕ
+  pub is : reading_of (pre ++ (records_bytes es ++ more)) ≡ reads pre (record { records = es ++ others; tail = tail })
 
 parts_are : (p : Parts) (es : List Record) (t : List ℕ) → p.records ≡ es → p.tail ≡ t → p ≡ record { records = es; tail = t }
 parts_are p es t e f = ap (λ l. record { records = l; tail = p.tail }) e ∙ ap (λ l. record { records = es; tail = l }) f
 
-reading_behind : (flags : List Bool) (pre more : List ℕ) (es : List Record) → IsPreamble pre → AllByRecursion IsRecord es → Behind flags pre more es
-reading_behind flags pre more es h fit =
+pub reading_behind : (pre more : List ℕ) (es : List Record) → IsPreamble pre → AllByRecursion IsRecord es → Behind pre more es
+reading_behind pre more es h fit =
     let along = parts_of-along es more fit in
     let rest = parts_within along.0 more in
     record {
@@ -333,7 +333,7 @@ reading_behind flags pre more es h fit =
 text_behind : (flags : List Bool) (pre more : List ℕ) (es : List Record) → IsPreamble pre → AllByRecursion IsRecord es
     → (others : List ℕ) × (thin_text flags (reading_of (pre ++ (records_bytes es ++ more))) ≡ pre ++ (records_bytes (kept flags es) ++ others))
 text_behind flags pre more es h fit =
-    let b = reading_behind flags pre more es h fit in
+    let b = reading_behind pre more es h fit in
     (records_bytes (kept (drop (length es) flags) b.others), ap (thin_text flags) b.is ∙ ap (λ l. pre ++ l) (text-append flags es b.others))
 
 -- ---- with the preamble before
@@ -380,7 +380,7 @@ decided_by flags a d pre rest n tail answer w left e t ended = record {
   };
 }
 
-at_end_left : (left : Option (List ℕ)) → IsAtEnd left → IsLeft left []
+pub at_end_left : (left : Option (List ℕ)) → IsAtEnd left → IsLeft left []
 at_end_left None h = tt
 at_end_left (Some xs) h = h
 
@@ -409,7 +409,7 @@ more_end flags a d pre n w many =
     let es = w.records in
     let same : (pre ++ (records_bytes es ++ [])) ++ rest ≡ pre ++ (records_bytes es ++ rest) =
     ap (λ l. (pre ++ l) ++ rest) (append-nil (records_bytes es)) ∙ append_assoc pre (records_bytes es) rest in
-    let b = reading_behind flags pre rest es w.is w.fit in
+    let b = reading_behind pre rest es w.is w.fit in
     decided_by flags a d pre rest n [] (Err More) w left.1
     (ap (λ l. thin_end flags (reading_of l)) same ∙ ap (thin_end flags) b.is
     ∙ ap (λ t. cond t (Err More) (end_at flags (length (es ++ b.others)) (front_of b.tail))) (lt-ltb (length flags) (length (es ++ b.others)) (omega (arith, length-append es b.others, w.count))))
@@ -434,7 +434,7 @@ length_end flags a d pre n tail w few eight short =
     (λ ok. absurd (cc))
 
 -- bytes that are below a record begin with none
-below_none : (tail : List ℕ) → (8 ≤ length tail → length tail < length_field tail) → (e : Record) (rest : List ℕ) → front_of tail ≡ starts e rest → ⊥
+pub below_none : (tail : List ℕ) → (8 ≤ length tail → length tail < length_field tail) → (e : Record) (rest : List ℕ) → front_of tail ≡ starts e rest → ⊥
 below_none tail below e rest h =
     let f = found tail e rest h in
     omega (arith, below f.eight, f.within)

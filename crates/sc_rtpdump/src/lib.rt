@@ -13,7 +13,7 @@ mod thin;
 pub use fault::DumpFault;
 pub use head::Head;
 pub use kind::{Kind, kind_of};
-pub use next::{next_record, write_record};
+pub use next::{next_record, next_record_behind, write_record};
 pub use preamble::{Preamble, read_preamble};
 pub use reading_laws::one_reading;
 pub use record::{DumpRecord, MAX_BODY};

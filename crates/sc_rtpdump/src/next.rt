@@ -1,13 +1,14 @@
 //! Reading the next record of a capture, and writing a record.
 ghost use Rattle.std.specs.Prelude.{◌≤◌, length, OnOk, OnErr};
+ghost use Rattle.sc_outside.specs.declared.pending.TheConstants.Pending.{ROOM};
 ghost use Rattle.sc_outside.specs.Whole.{PutsAll, WriteFailed};
 ghost use Rattle.sc_rtpdump.specs.Record.{record_bytes};
-ghost use Rattle.sc_rtpdump.specs.Next.{NextGives};
+ghost use Rattle.sc_rtpdump.specs.Next.{NextBehind, NextGives};
 
 use super::fault::DumpFault;
 use super::head::{HEAD, Head, read_head};
 use super::record::{DumpRecord, MAX_BODY};
-use sc_outside::{Failed, Port, write_whole};
+use sc_outside::{Failed, Pending, Port, write_whole};
 
 /// Reads the next record into `rec`, and takes exactly its bytes; false at the end of the input. `index` is the record's
 /// number, which a fault carries. After false or a fault `rec` is an empty record. It takes no memory.
@@ -30,6 +31,34 @@ pub fn next_record<P: Port>(
         Ok(true) => Ok(true),
         Ok(false) => Err(DumpFault::Truncated(index)),
         Err(Failed) => Err(DumpFault::Read),
+    }
+}
+
+/// Reads the next record as [`next_record`] does, while bytes wait to be written to the same port. What waits is written
+/// where `room` more bytes don't fit behind it, and before a read that the port doesn't have at hand; `Failed` where that
+/// write failed.
+pub fn next_record_behind<P: Port>(
+    port: &mut P,
+    index: u32,
+    rec: &mut DumpRecord,
+    pending: &mut Pending,
+    room: usize,
+) -> Result<Result<bool, DumpFault>, Failed>
+    requires { room ≤ ROOM }
+    ensures { NextBehind index (P.told port.old) (P.told port.new) pending.old pending.new room result rec.new }
+{
+    rec.clear();
+    pending.make_way(port, room, HEAD)?;
+    let head = match read_head(port, index) {
+        Ok(Some(head)) => head,
+        Ok(None) => return Ok(Ok(false)),
+        Err(fault) => return Ok(Err(fault)),
+    };
+    pending.make_way(port, room, usize::from(head.len) - HEAD)?;
+    match rec.fill(port, head) {
+        Ok(true) => Ok(Ok(true)),
+        Ok(false) => Ok(Err(DumpFault::Truncated(index))),
+        Err(Failed) => Ok(Err(DumpFault::Read)),
     }
 }
 

@@ -10,3 +10,8 @@ pub mod FrameLaws
 pub mod HeadLaws
 pub mod SlotLaws
 pub mod WriteSteps
+pub mod ProtectedLaws
+pub mod MakerSteps
+pub mod TakeSteps
+pub mod FlushSteps
+pub mod EndSteps

@@ -1,4 +1,6 @@
 pub mod Answers
 pub mod Frame
 pub mod Laws
+pub mod Protected
+pub mod ProtectSteps
 pub mod Slot
