@@ -116,13 +116,12 @@ fn read_protect(words: &[String]) -> Option<Command<'_>>
 {
     match words {
         [code, size] => {
+            let code = code.as_str();
             let size = number_word(size.as_str(), MAX_SIZE.into())? as u16;
-            if MIN_SIZE <= size {
-                let code = code.as_str();
-                Some(Command::Protect { code, size })
-            } else {
-                None
+            if size < MIN_SIZE {
+                return None;
             }
+            Some(Command::Protect { code, size })
         }
         _ => None,
     }
