@@ -1,5 +1,5 @@
 -- Numbers in range are those of a code, and those of a code are in range.
-use Rattle.std.proofs.Common.{◌≡◌, ℕ, suc, ◌+◌, ◌<◌, ◌≤◌, Bool, true, false, List, [], ◌∷◌, length, map, get_or, nat_le, All, Result, Ok, Err, IsOk, refl, sym, ap, ap₂, ◌∙◌, subst, arith}
+use Rattle.std.proofs.Common.{◌≡◌, ℕ, suc, ◌+◌, ◌<◌, ◌≤◌, true, List, [], ◌∷◌, length, map, get_or, nat_le, All, Result, Ok, Err, IsOk, refl, sym, ap, ap₂, ◌∙◌, subst, arith}
 use Rattle.std.specs.List.{list_all}
 use Rattle.std.proofs.lemmas.Bool.{and_parts, and_from, leb-true, le-leb, eqb-true, eq-eqb}
 use Rattle.std.proofs.lemmas.List.{length-map, get_or-map}
@@ -7,7 +7,7 @@ use Rattle.std.proofs.lemmas.List.Folds.{list_all-map}
 use Rattle.std.proofs.lemmas.List.Sums.{AllPass-from_list_all, list_all-from_AllPass}
 use Rattle.sc_matrix.specs.Vector.{IsVector}
 use Rattle.sc_matrix.specs.Matrix.{Matrix, IsMatrix, row}
-use Rattle.sc_code.specs.Code.{Code, IsInRange, HasShape, IsCode, lag_matrix}
+use Rattle.sc_code.specs.Code.{Code, HasShape, IsCode, lag_matrix}
 use Rattle.sc_code.specs.declared.code.CodeFault.{CodeFault}
 use Rattle.sc_code.specs.declared.code.CodeFault.TheVariants.{Range, Shape}
 use Rattle.sc_codefile.specs.CodeFile.{is_k, is_row, is_matrix, are_lags, is_r, rows_of}

@@ -1,6 +1,6 @@
 -- A list of values reads as what they were made of.
-use Rattle.std.proofs.Common.{◌≡◌, ℕ, suc, List, [], ◌∷◌, ◌++◌, Option, Some, None, option_map, option_and_then, map, refl, sym, ap, ◌∙◌, append_assoc, append-nil}
-use Rattle.serde_json.specs.Data.{Data, Items, no_items, item}
+use Rattle.std.proofs.Common.{◌≡◌, ℕ, List, [], ◌∷◌, Option, Some, map, refl}
+use Rattle.serde_json.specs.Data.{Data}
 use Rattle.serde_json.specs.View.{items_of}
 use Rattle.sc_codefile.specs.Value.{all_of, list_of, array_of, whole_number, number_value}
 

@@ -1,7 +1,7 @@
 -- Code files: what a value has at each key, and the faults in their order.
-use Rattle.std.specs.Prelude.{◌≡◌, ℕ, ◌+◌, ◌<◌, ◌&&◌, ◌==◌, List, [], ◌∷◌, Bool, false, not, Option, Some, None, is_some, is_none, unwrap_or, option_map, option_and_then, map, length, nat_le, codes}
+use Rattle.std.specs.Prelude.{◌≡◌, ℕ, ◌+◌, ◌<◌, ◌&&◌, ◌==◌, List, [], ◌∷◌, Bool, false, not, Option, Some, None, is_some, is_none, unwrap_or, option_and_then, map, length, nat_le, codes}
 use Rattle.std.specs.List.{list_all}
-use Rattle.serde_json.specs.Data.{Data, object, member, no_members}
+use Rattle.serde_json.specs.Data.{Data}
 use Rattle.serde_json.specs.Find.{as_object, get}
 use Rattle.sc_matrix.specs.Matrix.{Matrix}
 use Rattle.sc_channel.specs.Channel.{ChannelNumbers, IsChannel, is_channel}
@@ -10,7 +10,7 @@ use Rattle.sc_code.specs.declared.code.CodeFile.{CodeFile}
 use Rattle.sc_codefile.specs.declared.fault.Key.TheVariants.{Whole, Other, Channel, K, Lags, R}
 use Rattle.sc_codefile.specs.declared.fault.FileFault.{FileFault}
 use Rattle.sc_codefile.specs.declared.fault.FileFault.TheVariants.{Shape, Range}
-use Rattle.sc_codefile.specs.Value.{IsValueOf, has_other_key, whole_number, list_of, array_of, number_value}
+use Rattle.sc_codefile.specs.Value.{IsValueOf, has_other_key, whole_number, list_of}
 use Rattle.sc_codefile.specs.Fault.{fails}
 
 -- the keys of a code file

@@ -11,7 +11,7 @@ use Rattle.sc_codefile.specs.declared.fault.FileFault.{FileFault}
 use Rattle.sc_codefile.specs.declared.fault.FileFault.TheVariants.{Shape, Range, Memory}
 use Rattle.sc_codefile.specs.declared.numbers.CodeNumbers.{CodeNumbers}
 use Rattle.sc_codefile.specs.Value.{has_other_key}
-use Rattle.sc_codefile.specs.CodeFile.{code_keys, is_object, channel_at, k_at, lags_at, r_at, is_k, are_lags, is_r, rows_of}
+use Rattle.sc_codefile.specs.CodeFile.{code_keys, is_object, channel_at, k_at, lags_at, r_at, is_k, are_lags, is_r}
 
 -- what was found at a key, or a fault of its shape
 abbrev pub IsFound : {A : Type 0} → Option A → Key → Result A FileFault → Type 0
