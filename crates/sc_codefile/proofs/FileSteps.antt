@@ -1,5 +1,5 @@
 -- A value and the code file that it is.
-use Rattle.std.proofs.Common.{◌≡◌, ℕ, ◌<◌, Bool, true, false, not, List, [], ◌∷◌, Option, Some, None, is_none, unwrap_or, map, refl, sym, ap, ap₂, ◌∙◌}
+use Rattle.std.proofs.Common.{◌≡◌, ◌≢◌, ℕ, ◌<◌, Bool, true, false, not, List, [], ◌∷◌, Option, Some, None, is_none, unwrap_or, map, refl, sym, ap, ap₂, ◌∙◌}
 use Rattle.std.specs.Bool.{⊤}
 use Rattle.std.proofs.lemmas.Bool.{not-false, true≢false}
 use Rattle.std.proofs.lemmas.Option.{none-some, same_Some}
@@ -11,10 +11,11 @@ use Rattle.sc_channel.proofs.ChannelLaws.{is_channel-to, is_channel-from}
 use Rattle.sc_code.specs.Code.{Code, IsCode}
 use Rattle.sc_code.specs.declared.code.CodeFile.{CodeFile}
 use Rattle.sc_codefile.specs.declared.fault.FileFault.{FileFault}
+use Rattle.sc_codefile.specs.declared.fault.FileFault.TheVariants.{NotJson, Shape, Range, Memory}
 use Rattle.sc_codefile.specs.declared.numbers.CodeNumbers.{CodeNumbers}
-use Rattle.sc_codefile.specs.Value.{has_other_key}
-use Rattle.sc_codefile.specs.Fault.{first_of, fails}
-use Rattle.sc_codefile.specs.CodeFile.{code_keys, is_object, channel_at, k_at, lags_at, r_at, is_k, are_lags, is_r, rows_of, code_faults, IsCodeFile}
+use Rattle.sc_codefile.specs.Value.{IsValueOf, has_other_key}
+use Rattle.sc_codefile.specs.Fault.{first_of, fails, IsFirstFault, IsRefusedFor}
+use Rattle.sc_codefile.specs.CodeFile.{code_keys, is_object, channel_at, k_at, lags_at, r_at, is_k, are_lags, is_r, rows_of, code_faults, IsCodeFile, IsCodeFileText}
 use Rattle.sc_codefile.specs.CodeText.{code_value}
 use Rattle.sc_codefile.specs.Numbers.{HasNumbers, with_cols, HasFile}
 use Rattle.sc_codefile.proofs.ValueSteps.{lags-array}
@@ -96,34 +97,54 @@ is_some_value (Some x) e = (x, refl)
 pub no_fault-file : (d : Data) (file : CodeFile) → IsCodeFile d file → first_of (code_faults d) ≡ None
 no_fault-file d file is =
     none_from_clear (code_faults d) (
-      ap not (object_from_channel d file.channel is.channel), (
-      is.keys, (
-      ap is_none is.channel, (
-      ap is_none is.k, (
-      ap is_none is.lags, (
-      ap is_none is.r, (
-      ap (fails is_channel) is.channel ∙ ap not (is_channel-from file.channel is.is_channel), (
-      ap (fails is_k) is.k ∙ ap not (k_in file.code is.is_code), (
-      ap₂ (λ (k r : Option ℕ). fails (are_lags (unwrap_or k 0) (unwrap_or r 0)) (lags_at d)) is.k is.r
-          ∙ ap (fails (are_lags file.code.k file.code.r)) is.lags ∙ ap not (lags_in file.code is.is_code), (
-      ap₂ (λ (k r : Option ℕ). fails (is_r (unwrap_or k 0)) r) is.k is.r ∙ ap not (r_in file.code is.is_code),
-      tt))))))))))
+      ap not (object_from_channel d file.channel is.channel),
+      (
+        is.keys,
+        (
+          ap is_none is.channel,
+          (
+            ap is_none is.k,
+            (
+              ap is_none is.lags,
+              (
+                ap is_none is.r,
+                (
+                  ap (fails is_channel) is.channel ∙ ap not (is_channel-from file.channel is.is_channel),
+                  (
+                    ap (fails is_k) is.k ∙ ap not (k_in file.code is.is_code),
+                    (
+                      ap₂ (λ (k r : Option ℕ). fails (are_lags (unwrap_or k 0) (unwrap_or r 0)) (lags_at d)) is.k is.r
+                          ∙ ap (fails (are_lags file.code.k file.code.r)) is.lags ∙ ap not (lags_in file.code is.is_code),
+                      (
+                        ap₂ (λ (k r : Option ℕ). fails (is_r (unwrap_or k 0)) r) is.k is.r ∙ ap not (r_in file.code is.is_code),
+                        tt,
+                      ),
+                    ),
+                  ),
+                ),
+              ),
+            ),
+          ),
+        ),
+      ),
+    )
 
 -- the file of numbers in range
 made_file : (d : Data) (channel : ChannelNumbers) (k r : ℕ) (lags : List (List (List ℕ)))
     → has_other_key code_keys d ≡ false → channel_at d ≡ Some channel → k_at d ≡ Some k → lags_at d ≡ Some lags → r_at d ≡ Some r
     → is_channel channel ≡ true → is_k k ≡ true → are_lags k r lags ≡ true → is_r k r ≡ true → (file : CodeFile) × IsCodeFile d file
-made_file d channel k r lags keys c is_k_at is_lags_at is_r_at channel_fits k_fits lags_fit r_fits =
-    (record { channel = channel; code = record { k = k; r = r; lags = map (with_cols r) lags } },
-    record {
-      keys = keys;
-      channel = c;
-      k = is_k_at;
-      lags = is_lags_at ∙ ap Some (sym (rows_of-with_cols r lags));
-      r = is_r_at;
-      is_channel = is_channel-to channel channel_fits;
-      is_code = is_code-from k r lags k_fits lags_fit r_fits;
-    })
+made_file d channel k r lags keys c is_k_at is_lags_at is_r_at channel_fits k_fits lags_fit r_fits = (
+  record { channel = channel; code = record { k = k; r = r; lags = map (with_cols r) lags } },
+  record {
+    keys = keys;
+    channel = c;
+    k = is_k_at;
+    lags = is_lags_at ∙ ap Some (sym (rows_of-with_cols r lags));
+    r = is_r_at;
+    is_channel = is_channel-to channel channel_fits;
+    is_code = is_code-from k r lags k_fits lags_fit r_fits;
+  },
+)
 
 pub some_file-no_fault : (d : Data) → first_of (code_faults d) ≡ None → (file : CodeFile) × IsCodeFile d file
 some_file-no_fault d none =
@@ -147,3 +168,39 @@ some_file-no_fault d none =
     (not-false _ (sym (ap₂ (λ (x y : Option ℕ). fails (are_lags (unwrap_or x 0) (unwrap_or y 0)) (lags_at d)) k.1 r.1
     ∙ ap (fails (are_lags k.0 r.0)) l.1) ∙ p9.0))
     (not-false _ (sym (ap₂ (λ (x y : Option ℕ). fails (is_r (unwrap_or x 0)) y) k.1 r.1) ∙ p10.0))
+
+-- ---- bytes have one answer
+
+same_value : (text : List ℕ) (d e : Data) → IsValueOf text d → IsValueOf text e → d ≡ e
+same_value text d e is too = same_Some _ _ (sym is.is_read ∙ too.is_read)
+
+file_or_fault : (text : List ℕ) (file : CodeFile) (fault : FileFault) → IsCodeFileText text file → IsFirstFault code_faults text fault → ⊥
+file_or_fault text file fault is faulty =
+    none-some fault (sym (no_fault-file is.value file is.is_file)
+    ∙ ap (λ d. first_of (code_faults d)) (same_value text is.value faulty.value is.is_value faulty.is_value) ∙ faulty.first)
+
+pub refused-file : (text : List ℕ) (file : CodeFile) (fault : FileFault) → IsCodeFileText text file → IsRefusedFor code_faults text fault → fault ≡ Memory
+refused-file text file NotJson is refused = absurd (refused is.value is.is_value)
+refused-file text file (Shape key) is refused = absurd (file_or_fault text file (Shape key) is refused)
+refused-file text file (Range key) is refused = absurd (file_or_fault text file (Range key) is refused)
+refused-file text file Memory is refused = refl
+
+same_fault : (text : List ℕ) (fault other : FileFault) → IsFirstFault code_faults text fault → IsFirstFault code_faults text other → fault ≡ other
+same_fault text fault other is too =
+    same_Some _ _ (sym is.first ∙ ap (λ d. first_of (code_faults d)) (same_value text is.value too.value is.is_value too.is_value) ∙ too.first)
+
+pub same_refusal : (text : List ℕ) (fault other : FileFault) → IsRefusedFor code_faults text fault → IsRefusedFor code_faults text other
+    → fault ≢ Memory → other ≢ Memory → fault ≡ other
+same_refusal text Memory other is too m n = absurd (m refl)
+same_refusal text NotJson NotJson is too m n = refl
+same_refusal text NotJson (Shape key) is too m n = absurd (is too.value too.is_value)
+same_refusal text NotJson (Range key) is too m n = absurd (is too.value too.is_value)
+same_refusal text NotJson Memory is too m n = absurd (n refl)
+same_refusal text (Shape key) NotJson is too m n = absurd (too is.value is.is_value)
+same_refusal text (Shape key) (Shape more) is too m n = same_fault text (Shape key) (Shape more) is too
+same_refusal text (Shape key) (Range more) is too m n = same_fault text (Shape key) (Range more) is too
+same_refusal text (Shape key) Memory is too m n = absurd (n refl)
+same_refusal text (Range key) NotJson is too m n = absurd (too is.value is.is_value)
+same_refusal text (Range key) (Shape more) is too m n = same_fault text (Range key) (Shape more) is too
+same_refusal text (Range key) (Range more) is too m n = same_fault text (Range key) (Range more) is too
+same_refusal text (Range key) Memory is too m n = absurd (n refl)

@@ -1,16 +1,21 @@
 //! Laws of files. The functions do nothing: each has a law as its contract.
 
-ghost use Rattle.std.specs.Prelude.{◌≡◌, ℕ, List, None};
+ghost use Rattle.std.specs.Prelude.{◌≡◌, ◌≢◌, ℕ, List, None};
 ghost use Rattle.serde_json.specs.Data.{Data};
 ghost use Rattle.sc_code.specs.declared.code.CodeFile.{CodeFile};
 ghost use Rattle.sc_codefile.specs.Value.{IsValueOf};
-ghost use Rattle.sc_codefile.specs.Fault.{first_of};
-ghost use Rattle.sc_codefile.specs.CodeFile.{IsCodeFile, code_faults};
+ghost use Rattle.sc_codefile.specs.Fault.{first_of, IsRefusedFor};
+ghost use Rattle.sc_codefile.specs.CodeFile.{IsCodeFile, IsCodeFileText, code_faults};
 
-/// Bytes have at most one value, and a value is a code file of at most one file. It is one exactly where it has no fault.
+use crate::fault::FileFault;
+
+/// Bytes have at most one value, and a value is a code file of at most one file. It is one exactly where it has no fault. So
+/// bytes that are a code file are refused for want of memory alone, and other bytes for one fault beside it.
 pub fn one_code_file()
     ensures value { (text : List ℕ) (d e : Data) → IsValueOf text d → IsValueOf text e → d ≡ e }
     ensures file { (d : Data) (file other : CodeFile) → IsCodeFile d file → IsCodeFile d other → file ≡ other }
     ensures no_fault { (d : Data) (file : CodeFile) → IsCodeFile d file → first_of (code_faults d) ≡ None }
     ensures some_file { (d : Data) → first_of (code_faults d) ≡ None → (file : CodeFile) × IsCodeFile d file }
+    ensures refused { (text : List ℕ) (file : CodeFile) (fault : FileFault) → IsCodeFileText text file → IsRefusedFor code_faults text fault → fault ≡ FileFault.Memory }
+    ensures refusal { (text : List ℕ) (fault other : FileFault) → IsRefusedFor code_faults text fault → IsRefusedFor code_faults text other → fault ≢ FileFault.Memory → other ≢ FileFault.Memory → fault ≡ other }
 {}

@@ -8,6 +8,8 @@ mod numbers;
 mod print;
 mod ranges;
 mod read;
+#[cfg(test)]
+mod tests;
 
 pub use fault::{FileFault, Key};
 pub use laws::one_code_file;

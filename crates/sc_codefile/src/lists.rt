@@ -67,10 +67,7 @@ impl<T: Shape + Drop> Shape for ListOf<T> {
 }
 
 /// What all the values are in one shape, or `None` where one hasn't it.
-fn all_of<T: Shape + Drop>(
-    alloc: Global,
-    values: &[Value],
-) -> Result<Option<ListOf<T>>, NoMemory>
+fn all_of<T: Shape + Drop>(alloc: Global, values: &[Value]) -> Result<Option<ListOf<T>>, NoMemory>
     ensures { IfOk result (λ found. found ≡ all_of T.shape (items_view values.now)) }
 {
     let mut items = Vec::with_capacity(alloc, values.len())?;

@@ -51,7 +51,12 @@ pub(crate) fn numbers_of(alloc: Global, value: &Value) -> Result<CodeNumbers, Fi
     let k = k_at(alloc, value)?;
     let lags = lags_at(alloc, value)?;
     let r = r_at(alloc, value)?;
-    Ok(CodeNumbers { channel, k, lags, r })
+    Ok(CodeNumbers {
+        channel,
+        k,
+        lags,
+        r,
+    })
 }
 
 /// Whether the value is an object with no key but those of a code file.

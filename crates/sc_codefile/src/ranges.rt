@@ -128,7 +128,7 @@ fn code_of(alloc: Global, numbers: &CodeNumbers) -> Result<ByteCode, NoMemory>
     ensures numbers { IfOk result (λ code. code ≡ record {
       k = numbers.now.k;
       r = numbers.now.r;
-      lags = map (with_cols numbers.now.r) numbers.now.lags
+      lags = map (with_cols numbers.now.r) numbers.now.lags;
     }) }
     ensures limits { IfOk result (IsCode (λ x. x < 256)) }
 {

@@ -1,0 +1,336 @@
+//! Texts of code files beside what they are read as, and refusals in their order.
+
+use super::*;
+use sc_channel::Channel;
+use sc_code::{Code, CodeFile};
+use sc_field::{Field, Gf256};
+use sc_matrix::Matrix;
+use std::alloc::Global;
+use std::process::Abort;
+use std::test::Fail;
+
+// `p[t] = s[t-2]`.
+const DELAYED: &str = "{\"channel\":[3,2,1,2],\"k\":1,\"lags\":[[[0]],[[0]],[[1]]],\"r\":1}";
+
+// `p_0[t] = s_0[t-2] + s_1[t-1]`, `p_1[t] = s_0[t-3]`, `p_2[t] = s_1[t-3]`.
+const THREE_PARITIES: &str =
+    "{\"channel\":[4,3,2,3],\"k\":2,\"lags\":[[[0,0,0],[0,0,0]],[[0,0,0],[1,0,0]],[[1,0,0],[0,0,0]],[[0,1,0],[0,0,1]],[[0,0,0],[0,0,0]]],\"r\":3}";
+
+// A greatest coefficient, the greatest channel, and a code without memory.
+const GREATEST: &str = "{\"channel\":[255,40,40,40],\"k\":2,\"lags\":[[[255],[7]]],\"r\":1}";
+
+#[test]
+fn printed_as_read(rt: HostRuntime) -> Result<(), Fail> {
+    for text in [DELAYED, THREE_PARITIES, GREATEST] {
+        let file = read_code(rt.alloc(), text.as_bytes())?;
+        let printed = print_code(rt.alloc(), &file)?;
+        assert!(rt; printed.as_slice() == text.as_bytes(), "{text}");
+    }
+    Ok(())
+}
+
+#[test]
+fn numbers_as_written(rt: HostRuntime) -> Result<(), Fail> {
+    let file = read_code(rt.alloc(), THREE_PARITIES.as_bytes())?;
+    let channel = file.channel;
+    assert_eq!(rt;
+        (channel.w(), channel.b(), channel.n(), channel.t()),
+        (4, 3, 2, 3)
+    );
+    let code = &file.code;
+    assert!(rt; code.k() == 2 && code.r() == 3 && code.memory() == 4);
+    let ones = [(1, 1, 0), (2, 0, 0), (3, 0, 1), (3, 1, 2)];
+    for at in 0..30 {
+        let place = (at / 6, at / 3 % 2, at % 3);
+        if place.0 <= code.memory() && place.1 < code.k() && place.2 < code.r() {
+            let one = ones.iter().any(|p| *p == place);
+            let number = code.coefficient(place.0, place.1, place.2).number();
+            assert!(rt; number == one as u8, "{at}");
+        }
+    }
+    Ok(())
+}
+
+// The fault of a text, if it has one.
+fn fault(alloc: Global, text: &[u8]) -> Option<FileFault> {
+    match read_code(alloc, text) {
+        Ok(_file) => None,
+        Err(fault) => Some(fault),
+    }
+}
+
+// The text of a code file whose members are these.
+fn members(alloc: Global, parts: [&str; 4]) -> Result<String, Fail> {
+    let [channel, k, lags, r] = parts;
+    Ok(format!(in alloc; "{{\"channel\":{channel},\"k\":{k},\"lags\":{lags},\"r\":{r}}}")?)
+}
+
+const CHANNEL: &str = "[3,2,1,2]";
+
+const LAGS: &str = "[[[0]],[[0]],[[1]]]";
+
+// Compares the fault of a code file with what is expected of it.
+fn assert_fault(
+    rt: &impl Abort,
+    alloc: Global,
+    parts: [&str; 4],
+    expected: Option<FileFault>,
+) -> Result<(), Fail> {
+    let text = members(alloc, parts)?;
+    let found = fault(alloc, text.as_bytes());
+    assert!(rt; found == expected, "{}", text.as_str());
+    Ok(())
+}
+
+#[test]
+fn channels(rt: HostRuntime) -> Result<(), Fail> {
+    let shape = Some(FileFault::Shape(Key::Channel));
+    let range = Some(FileFault::Range(Key::Channel));
+    let table = [
+        (CHANNEL, None),
+        ("[3,2,1]", shape),
+        ("[3,2,1,2,9]", shape),
+        ("[3,2,1.0,2]", shape),
+        ("[3,2,1,2e0]", shape),
+        ("[3,-2,1,2]", shape),
+        ("[3,2,\"1\",2]", shape),
+        ("3", shape),
+        ("[18446744073709551616,2,1,2]", shape),
+        ("[18446744073709551615,2,1,2]", range),
+        ("[4294967299,2,1,2]", range),
+        ("[3,1,2,2]", range),
+        ("[3,2,0,2]", range),
+        ("[256,2,1,2]", range),
+        ("[50,2,1,41]", range),
+    ];
+    for (channel, expected) in table {
+        assert_fault(&rt, rt.alloc(), [channel, "1", LAGS, "1"], expected)?;
+    }
+    Ok(())
+}
+
+#[test]
+fn numbers_of_symbols(rt: HostRuntime) -> Result<(), Fail> {
+    let table = [
+        ("null", "1", FileFault::Shape(Key::K)),
+        ("1.0", "1", FileFault::Shape(Key::K)),
+        ("1e0", "1", FileFault::Shape(Key::K)),
+        ("-0", "1", FileFault::Shape(Key::K)),
+        ("[1]", "1", FileFault::Shape(Key::K)),
+        ("0", "1", FileFault::Range(Key::K)),
+        ("64", "1", FileFault::Range(Key::K)),
+        ("2", "1", FileFault::Range(Key::Lags)),
+        ("1", "false", FileFault::Shape(Key::R)),
+        ("1", "1.5", FileFault::Shape(Key::R)),
+        ("1", "2", FileFault::Range(Key::Lags)),
+        ("1", "0", FileFault::Range(Key::Lags)),
+    ];
+    for (k, r, expected) in table {
+        assert_fault(&rt, rt.alloc(), [CHANNEL, k, LAGS, r], Some(expected))?;
+    }
+    let nothing = [CHANNEL, "1", "[[[]]]", "0"];
+    assert_fault(&rt, rt.alloc(), nothing, Some(FileFault::Range(Key::R)))
+}
+
+#[test]
+fn matrices(rt: HostRuntime) -> Result<(), Fail> {
+    let shape = Some(FileFault::Shape(Key::Lags));
+    let range = Some(FileFault::Range(Key::Lags));
+    let table = [
+        ("[[0]]", shape),
+        ("[[[0,true]]]", shape),
+        ("[[[0],0]]", shape),
+        ("[[[0]],{}]", shape),
+        ("[[[-1]]]", shape),
+        ("[]", range),
+        ("[[]]", range),
+        ("[[[]]]", range),
+        ("[[[0]],[[0],[0]]]", range),
+        ("[[[0]],[[0,0]]]", range),
+        ("[[[255]]]", None),
+        ("[[[256]]]", range),
+    ];
+    for (lags, expected) in table {
+        assert_fault(&rt, rt.alloc(), [CHANNEL, "1", lags, "1"], expected)?;
+    }
+    Ok(())
+}
+
+// What isn't JSON, whole values, other and missing keys, and faults in their order.
+#[test]
+fn faults_of_a_file(rt: HostRuntime) -> Result<(), Fail> {
+    let table = [
+        ("", FileFault::NotJson),
+        ("{", FileFault::NotJson),
+        ("[]]", FileFault::NotJson),
+        ("{\"k\":01}", FileFault::NotJson),
+        ("{\"k\":1e999}", FileFault::NotJson),
+        ("[]", FileFault::Shape(Key::Whole)),
+        ("null", FileFault::Shape(Key::Whole)),
+        ("\"channel\"", FileFault::Shape(Key::Whole)),
+        ("{\"k\":1}", FileFault::Shape(Key::Channel)),
+        ("{}", FileFault::Shape(Key::Channel)),
+        ("{\"x\":1}", FileFault::Shape(Key::Other)),
+        ("{\"K\":1}", FileFault::Shape(Key::Other)),
+        (
+            "{\"channel\":[3,2,1,2],\"lags\":[],\"r\":1}",
+            FileFault::Shape(Key::K),
+        ),
+        (
+            "{\"channel\":[3,2,1,2],\"k\":1,\"r\":1}",
+            FileFault::Shape(Key::Lags),
+        ),
+        (
+            "{\"channel\":[3,2,1,2],\"k\":1,\"lags\":[]}",
+            FileFault::Shape(Key::R),
+        ),
+        (
+            "{\"channel\":[1,2,3,4],\"k\":0,\"lags\":[],\"r\":0.5}",
+            FileFault::Shape(Key::R),
+        ),
+        (
+            "{\"channel\":[1,2,3,4],\"k\":0,\"lags\":[],\"r\":0}",
+            FileFault::Range(Key::Channel),
+        ),
+        (
+            "{\"channel\":[3,2,1,2],\"k\":0,\"lags\":[],\"r\":0}",
+            FileFault::Range(Key::K),
+        ),
+        (
+            "{\"channel\":[3,2,1,2],\"k\":1,\"lags\":[],\"r\":0}",
+            FileFault::Range(Key::Lags),
+        ),
+        (
+            "{\"channel\":[3,2,1,2],\"k\":1,\"lags\":[[[0]],[[0]],[[1]]],\"loss\":1,\"r\":1}",
+            FileFault::Shape(Key::Other),
+        ),
+    ];
+    for (text, expected) in table {
+        let found = fault(rt.alloc(), text.as_bytes());
+        assert!(rt; found == Some(expected), "{text}");
+    }
+    assert_eq!(rt; fault(rt.alloc(), b"\"\xff\""), Some(FileFault::NotJson));
+    Ok(())
+}
+
+// White space counts for nothing, and of a key that comes twice `serde_json` keeps the last value.
+#[test]
+fn other_texts_of_a_file(rt: HostRuntime) -> Result<(), Fail> {
+    let table = [
+        " { \"r\":1, \"lags\":[[[0]],[[0]],[[1]]],\n\"k\":1, \"channel\":[3,2,1,2] }\n",
+        "{\"k\":0,\"channel\":[3,2,1,2],\"k\":1,\"lags\":[[[0]],[[0]],[[1]]],\"r\":1}",
+        "{\"channel\":[3,2,1,2],\"\\u006b\":1,\"lags\":[[[0]],[[0]],[[1]]],\"r\":1}",
+    ];
+    for text in table {
+        let file = read_code(rt.alloc(), text.as_bytes())?;
+        let printed = print_code(rt.alloc(), &file)?;
+        assert!(rt; printed.as_slice() == DELAYED.as_bytes(), "{text}");
+    }
+    Ok(())
+}
+
+// A matrix with numbers that differ from place to place.
+fn filled(alloc: Global, lag: usize) -> Result<Matrix<Gf256>, Fail> {
+    let mut matrix = Matrix::zeros(alloc, 32, 32)?;
+    for at in 0..1024 {
+        let (i, j) = (at / 32, at % 32);
+        if i < matrix.rows() && j < matrix.cols() {
+            matrix.set(i, j, Gf256::from(((lag % 65 + at) % 256) as u8));
+        }
+    }
+    Ok(matrix)
+}
+
+// A code at the limits of its size, with coefficients of all values.
+fn largest(alloc: Global) -> Result<CodeFile, Fail> {
+    let mut lags = Vec::new(alloc);
+    for lag in 0..65 {
+        lags.push(filled(alloc, lag)?)?;
+    }
+    Ok(CodeFile {
+        channel: Channel::new(255, 40, 40, 40)?,
+        code: Code::new(32, 32, lags)?,
+    })
+}
+
+#[test]
+fn largest_code_reads_back(rt: HostRuntime) -> Result<(), Fail> {
+    let alloc = rt.alloc();
+    let printed = print_code(alloc, &largest(alloc)?)?;
+    let file = read_code(alloc, &printed)?;
+    assert!(rt; file.code.k() == 32 && file.code.r() == 32 && file.code.memory() == 64);
+    let again = print_code(alloc, &file)?;
+    assert!(rt; printed.len() > 200_000 && again.as_slice() == printed.as_slice());
+    Ok(())
+}
+
+// One symbol or one matrix too many, in a text of real size.
+#[test]
+fn beyond_the_limits(rt: HostRuntime) -> Result<(), Fail> {
+    let alloc = rt.alloc();
+    let table = [
+        (1, 63, 65, None),
+        (63, 1, 65, None),
+        (32, 32, 65, None),
+        (1, 64, 1, Some(FileFault::Range(Key::R))),
+        (63, 2, 1, Some(FileFault::Range(Key::R))),
+        (32, 33, 1, Some(FileFault::Range(Key::R))),
+        (1, 1, 66, Some(FileFault::Range(Key::Lags))),
+        (1, 1, 0, Some(FileFault::Range(Key::Lags))),
+        (64, 1, 1, Some(FileFault::Range(Key::K))),
+    ];
+    for (k, r, count, expected) in table {
+        let text = sized(alloc, k, r, count)?;
+        assert!(rt;
+            fault(alloc, text.as_bytes()) == expected,
+            "{k} {r} {count}"
+        );
+    }
+    Ok(())
+}
+
+// The text of `count` matrices of `k` rows of `r` numbers.
+fn sized(alloc: Global, k: usize, r: usize, count: usize) -> Result<String, Fail> {
+    let row = listed(alloc, "200", r)?;
+    let matrix = listed(alloc, row.as_str(), k)?;
+    let lags = listed(alloc, matrix.as_str(), count)?;
+    Ok(format!(in alloc;
+        "{{\"channel\":[3,2,1,2],\"k\":{k},\"lags\":{},\"r\":{r}}}",
+        lags.as_str()
+    )?)
+}
+
+// The text of a list of `count` equal items.
+fn listed(alloc: Global, item: &str, count: usize) -> Result<String, Fail> {
+    let mut text = String::from_str(alloc, "[")?;
+    for i in 0..count {
+        if i > 0 {
+            text.push_str(",")?;
+        }
+        text.push_str(item)?;
+    }
+    text.push_str("]")?;
+    Ok(text)
+}
+
+#[test]
+fn says_why(rt: HostRuntime) -> Result<(), Fail> {
+    let table = [
+        (FileFault::NotJson, "not json"),
+        (FileFault::Shape(Key::Whole), "shape whole"),
+        (FileFault::Shape(Key::Other), "shape other"),
+        (FileFault::Shape(Key::Channel), "shape channel"),
+        (FileFault::Range(Key::K), "range k"),
+        (FileFault::Range(Key::Lags), "range lags"),
+        (FileFault::Range(Key::R), "range r"),
+        (FileFault::Range(Key::Lost), "range lost"),
+        (FileFault::Shape(Key::Period), "shape period"),
+        (FileFault::Shape(Key::Loss), "shape loss"),
+        (FileFault::Memory, "no memory"),
+    ];
+    for (fault, expected) in table {
+        let text = format!(in rt.alloc(); "{fault}")?;
+        assert_eq!(rt; text.as_str(), expected);
+    }
+    Ok(())
+}
