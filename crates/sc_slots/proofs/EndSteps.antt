@@ -1,8 +1,8 @@
 -- The steps of protecting: many records, and how the last of them ends the call.
-use Rattle.std.proofs.Common.{◌≡◌, ◌⊎◌, inl, inr, ℕ, ◌+◌, ◌-◌, ◌*◌, ◌<◌, ◌≤◌, Bool, true, false, cond, nat_lt, Option, None, Some, List, [], ◌∷◌, ◌++◌, length, take, Result, Ok, Err, refl, sym, ap, ◌∙◌, subst, arith, append-nil, append_assoc, length-append, take_at}
+use Rattle.std.proofs.Common.{◌≡◌, inl, inr, ℕ, ◌+◌, ◌*◌, ◌<◌, ◌≤◌, Bool, true, false, nat_lt, Option, None, Some, List, [], ◌∷◌, ◌++◌, length, take, Result, Ok, Err, refl, sym, ap, ◌∙◌, subst, arith, append-nil, append_assoc, length-append, take_at}
 use Rattle.std.specs.Io.KnownBytes.{IsAtEnd}
 use Rattle.std.specs.List.{AllByRecursion}
-use Rattle.sc_outside.specs.Ends.{IsPrefix, IsLeft, input, read, write, memory, Ends, IsShort}
+use Rattle.sc_outside.specs.Ends.{IsPrefix, IsLeft, input, read, write, memory, Ends}
 use Rattle.sc_outside.specs.Faults.{Rose}
 use Rattle.sc_outside.specs.Pending.{FlushFailed}
 use Rattle.sc_outside.specs.Port.{Told, Moves, Takes, Puts}
@@ -16,11 +16,11 @@ use Rattle.sc_rtpdump.specs.declared.fault.DumpFault.TheVariants.{Preamble, Reco
 use Rattle.sc_rtpdump.specs.Head.{StopsAt}
 use Rattle.sc_rtpdump.specs.Preamble.{IsPreamble, preamble_len, PreambleGives}
 use Rattle.sc_rtpdump.specs.Record.{Record, IsRecord, record_bytes, length_field, short_head, short_length, cut_body, Front, ends, breaks, starts, front_of}
-use Rattle.sc_rtpdump.specs.Capture.{records_bytes, Parts, reads, reading_of}
-use Rattle.sc_rtpdump.specs.Thin.{Carries, Loses, StopsBehind}
+use Rattle.sc_rtpdump.specs.Capture.{records_bytes, reading_of}
+use Rattle.sc_rtpdump.specs.Thin.{Carries, StopsBehind}
 use Rattle.sc_rtpdump.proofs.CaptureLaws.{front_of-end, front_of-head, front_of-length, front_of-body, length_field-front, reading_of-none}
 use Rattle.sc_rtpdump.proofs.ThinLaws.{records_bytes-append}
-use Rattle.sc_rtpdump.proofs.ThinSteps.{StopsAt-earlier, StopsAt-later, All-append, stopped_reading, no_record, broken, below_none, at_end_left, reading_behind}
+use Rattle.sc_rtpdump.proofs.ThinSteps.{StopsAt-earlier, StopsAt-later, All-append, stopped_reading, no_record, below_none, at_end_left, reading_behind}
 use Rattle.sc_code.specs.declared.code.CodeFile.{CodeFile}
 use Rattle.sc_code.specs.Code.{Code}
 use Rattle.sc_code.specs.Encoder.{Encoder}
@@ -29,8 +29,8 @@ use Rattle.sc_slots.specs.declared.protect.ProtectFault.TheVariants.{TooWide, Du
 use Rattle.sc_slots.specs.declared.protect.Protected.{Protected}
 use Rattle.sc_slots.specs.declared.protect.Taken.{Taken}
 use Rattle.sc_slots.specs.Frame.{width_of}
-use Rattle.sc_slots.specs.Protected.{Protection, protection_of, packet_len, too_wide, protecting_within, protecting, rtp_part, source_text, all_text, protected, refusal, first_refused, numbers, refused, due_behind, due_by, due_of, before_refused, accepted, text_so_far, protecting_by}
-use Rattle.sc_slots.specs.ProtectSteps.{Knows, IsOf, AreFew, more_text, IsRefusedNext, HaltsAt, HaltsBehind, TakesRecord, LosesSome, Reached, Passed, TakesAll, HaltsAfter, LosesAfter, GivesMore, LosesMore, flush_text, fault_of, numbers_of, taken_of, LastGives, GivesAll, LosesLast, RestGives}
+use Rattle.sc_slots.specs.Protected.{Protection, protection_of, packet_len, too_wide, protecting_within, protecting, rtp_part, source_text, all_text, protected, refusal, first_refused, numbers, refused, due_behind, due_by, due_of, before_refused, text_so_far, protecting_by}
+use Rattle.sc_slots.specs.ProtectSteps.{Knows, IsOf, AreFew, more_text, IsRefusedNext, HaltsAt, HaltsBehind, TakesRecord, LosesSome, Reached, Passed, TakesAll, HaltsAfter, LosesAfter, flush_text, fault_of, numbers_of, LastGives, GivesAll, LosesLast, RestGives}
 use Rattle.sc_slots.proofs.ProtectedLaws.{source_text-more, all_text-parts, first_refused-none, first_refused-next, accepted_front}
 use Rattle.sc_slots.proofs.TakeSteps.{refusal-write, refusal-many, few_of, record_refused, record_stopped}
 
@@ -415,11 +415,14 @@ last_lost p a b c d pre h x y l =
       caused = (
         refl,
         Rose-earlier a.write_faults c.write_faults d.write_faults (omega (arith, x.moves.write_faults, y.moves.write_faults)) l.rose,
-        inr (l.end, record {
-          rest = l.lacking;
-          parts = ap (λ k. k.text) whole ∙ ap (λ k. pre ++ k) l.parts ∙ sym (append_assoc pre l.put l.lacking);
-          more = l.short;
-        }),
+        inr (
+          l.end,
+          record {
+            rest = l.lacking;
+            parts = ap (λ k. k.text) whole ∙ ap (λ k. pre ++ k) l.parts ∙ sym (append_assoc pre l.put l.lacking);
+            more = l.short;
+          },
+        ),
       );
     }
 

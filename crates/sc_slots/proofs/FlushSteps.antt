@@ -1,5 +1,5 @@
 -- The steps of protecting: the slots that flush the last blocks out.
-use Rattle.std.proofs.Common.{◌≡◌, ℕ, zero, suc, ◌+◌, ◌-◌, ◌*◌, ◌<◌, ◌≤◌, min, List, [], ◌∷◌, ◌++◌, length, map, replicate, get_or, refl, sym, ap, ◌∙◌, subst, arith, append-nil, append_assoc, length-append}
+use Rattle.std.proofs.Common.{◌≡◌, ℕ, suc, ◌+◌, ◌-◌, ◌*◌, ◌<◌, ◌≤◌, min, List, [], ◌∷◌, ◌++◌, length, map, replicate, get_or, sym, ap, ◌∙◌, subst, arith, append-nil, append_assoc, length-append}
 use Rattle.std.specs.List.{concat}
 use Rattle.std.proofs.lemmas.List.{length-map, length-replicate, get_or-append_right, get_or-replicate, replicate-append-replicate}
 use Rattle.sc_outside.specs.Pending.{HasWay, FlushFailed}
@@ -20,7 +20,7 @@ use Rattle.sc_code.proofs.StreamLaws.{parity-append}
 use Rattle.sc_slots.specs.declared.maker.Label.{Label}
 use Rattle.sc_slots.specs.declared.protect.Taken.{Taken}
 use Rattle.sc_slots.specs.Slot.{slot_bytes}
-use Rattle.sc_slots.specs.Protected.{Protection, rtp_part, blocks, stream, source_of, timestamp_of, slot_at, slot_text, slots_text}
+use Rattle.sc_slots.specs.Protected.{Protection, rtp_part, blocks, stream, source_of, timestamp_of, slot_text, slots_text}
 use Rattle.sc_slots.specs.ProtectSteps.{next_text, PutsSlot, last_source, source_stream, Knows, IsOf, GivesMore, LosesMore, flush_text}
 use Rattle.sc_slots.proofs.ProtectedLaws.{frame_in, zero_blocks, same_slot, length-source_stream, stream-parts, slots-split, slots-one}
 

@@ -1,8 +1,8 @@
 -- Protected captures: slots depend on the records before them alone, and what is due grows with what was read.
-use Rattle.std.proofs.Common.{◌≡◌, ℕ, zero, suc, ◌+◌, ◌-◌, ◌*◌, ◌<◌, ◌≤◌, Bool, true, false, cond, min, nat_le, nat_lt, Option, Some, None, List, [], ◌∷◌, ◌++◌, length, take, drop, map, filter, replicate, get_or, Ok, Err, refl, sym, ap, ◌∙◌, subst, arith, append-nil, append_assoc, length-append, take_at}
+use Rattle.std.proofs.Common.{◌≡◌, ℕ, zero, suc, ◌+◌, ◌-◌, ◌*◌, ◌<◌, ◌≤◌, Bool, true, false, cond, min, nat_le, nat_lt, Option, Some, None, List, [], ◌∷◌, ◌++◌, length, take, map, replicate, get_or, Err, refl, sym, ap, ◌∙◌, subst, arith, append-nil, append_assoc, length-append, take_at}
 use Rattle.std.specs.List.{flat_map, concat, range_with_len}
 use Rattle.std.proofs.lemmas.Grind.{flat_map-append}
-use Rattle.std.proofs.lemmas.List.{take-append-le, get_or_append_left, get_or_at, get_or-map, map-append, length-map, take_all}
+use Rattle.std.proofs.lemmas.List.{take-append-le, get_or_append_left, get_or_at, get_or-map, map-append, length-map}
 use Rattle.std.proofs.lemmas.List.Elements.{filter-append}
 use Rattle.sc_outside.specs.Ends.{IsPrefix, IsJob}
 use Rattle.sc_outside.proofs.EndsLaws.{IsPrefix-refl, IsPrefix-nil, IsJob-at_once}
@@ -21,7 +21,7 @@ use Rattle.sc_slots.specs.declared.protect.ProtectFault.{ProtectFault}
 use Rattle.sc_slots.specs.declared.protect.ProtectFault.TheVariants.{TooWide, Dump, TooManyRecords, TooLong, TooManySlots, Write, Memory}
 use Rattle.sc_slots.specs.Frame.{frame_bytes}
 use Rattle.sc_slots.specs.Slot.{Slot, slot_bytes}
-use Rattle.sc_slots.specs.Protected.{Protection, packet_len, protection_of, has_kind, rtp_part, blocks, stream, source_of, timestamp_of, slot_at, slot_text, slots_text, source_text, all_text, refusal, refusal_at, at_index, or_else, first_below, first_refused, due_behind, due_by, due_of, before_refused, accepted, text_so_far, protecting_by, protecting_within, protecting, IsOfInput}
+use Rattle.sc_slots.specs.Protected.{Protection, protection_of, has_kind, rtp_part, blocks, stream, source_of, timestamp_of, slot_at, slot_text, slots_text, source_text, all_text, refusal, refusal_at, at_index, or_else, first_below, first_refused, due_behind, due_by, due_of, before_refused, accepted, text_so_far, protecting_by, protecting_within, protecting, IsOfInput}
 use Rattle.sc_slots.specs.ProtectSteps.{source_stream, more_text, flush_text}
 
 -- ---- the RTP records

@@ -1,6 +1,5 @@
 -- The steps of protecting: what one record adds to what is kept and what waits.
-use Rattle.std.proofs.Common.{◌≡◌, ◌≢◌, ◌⊎◌, inl, inr, ℕ, ◌+◌, ◌-◌, ◌*◌, ◌<◌, ◌≤◌, Bool, true, false, cond, nat_le, nat_lt, min, Option, Some, None, List, [], ◌∷◌, ◌++◌, length, take, drop, map, replicate, get_or, count_by, Ok, Err, refl, sym, ap, ◌∙◌, subst, arith, append-nil, append_assoc, length-append}
-use Rattle.std.specs.Io.KnownBytes.{IsAtEnd}
+use Rattle.std.proofs.Common.{◌≡◌, ℕ, ◌+◌, ◌-◌, ◌*◌, ◌<◌, ◌≤◌, Bool, true, false, cond, nat_le, nat_lt, min, Some, None, List, [], ◌∷◌, ◌++◌, length, get_or, count_by, Ok, refl, sym, ap, ◌∙◌, subst, arith, append-nil, append_assoc, length-append}
 use Rattle.std.specs.List.{concat}
 use Rattle.std.proofs.lemmas.Bool.{lt-ltb, le-ltb}
 use Rattle.std.proofs.lemmas.Bool.Decides.{nat_tests}
@@ -12,11 +11,9 @@ use Rattle.sc_rtp.specs.Head.{head_bytes}
 use Rattle.sc_rtpdump.specs.declared.fault.DumpFault.{DumpFault}
 use Rattle.sc_rtpdump.specs.declared.kind.Kind.{Kind}
 use Rattle.sc_rtpdump.specs.declared.kind.Kind.TheVariants.{Rtcp, Cut, Strange, Rtp}
-use Rattle.sc_rtpdump.specs.Head.{StopsAt}
 use Rattle.sc_rtpdump.specs.Kind.{kind, IsRtp}
 use Rattle.sc_rtpdump.specs.Record.{Record, IsRecord, empty_record, record_bytes}
 use Rattle.sc_rtpdump.specs.Thin.{Carries, StopsBehind}
-use Rattle.sc_rtpdump.proofs.ThinSteps.{Carries-trans}
 use Rattle.sc_field.specs.Gf256.{gf256_product}
 use Rattle.sc_matrix.specs.Layout.{cut}
 use Rattle.sc_code.specs.Code.{Code}
@@ -28,9 +25,9 @@ use Rattle.sc_slots.specs.declared.protect.ProtectFault.TheVariants.{TooWide, Du
 use Rattle.sc_slots.specs.declared.protect.Taken.{Taken}
 use Rattle.sc_slots.specs.Frame.{frame_bytes}
 use Rattle.sc_slots.specs.Slot.{slot_bytes}
-use Rattle.sc_slots.specs.Protected.{Protection, is_kind, has_kind, rtp_part, blocks, stream, source_of, timestamp_of, slot_at, slot_text, source_text, refusal}
-use Rattle.sc_slots.specs.ProtectSteps.{next_slot, next_text, PutsSlot, last_source, taken_of, source_stream, Knows, IsOf, AreFew, more_text, Counts, HaltsAt, HaltsBehind, TakesRecord}
-use Rattle.sc_slots.proofs.ProtectedLaws.{refusal_by, refusal-is, refusal-IsRefusal, frame_in, rtp_part-yes, rtp_part-no, source_there, same_slot, length-source_stream, source_of-front}
+use Rattle.sc_slots.specs.Protected.{Protection, is_kind, has_kind, rtp_part, blocks, stream, source_of, timestamp_of, slot_text, refusal}
+use Rattle.sc_slots.specs.ProtectSteps.{next_text, PutsSlot, last_source, taken_of, source_stream, Knows, IsOf, AreFew, more_text, Counts, HaltsAt, HaltsBehind, TakesRecord}
+use Rattle.sc_slots.proofs.ProtectedLaws.{refusal_by, refusal-is, refusal-IsRefusal, frame_in, rtp_part-yes, rtp_part-no, source_there, same_slot, length-source_stream}
 
 -- ---- an RTP packet has a head
 pub rtp_head : (e : Record) → IsRtp e → 12 ≤ length e.body
@@ -211,27 +208,30 @@ source_counts p index e taken encoder encoder' before after packet time off k ep
     let block : frame_bytes off packet (encoder.code.k * encoder.width) ≡ frame_in p e =
     ap (λ o. frame_bytes o packet (encoder.code.k * encoder.width)) eo ∙ ap (λ l. frame_bytes e.offset l (encoder.code.k * encoder.width)) ep
     ∙ ap (λ (c : Code ℕ). frame_bytes e.offset e.body (c.k * encoder.width)) of.code ∙ ap (λ w. frame_bytes e.offset e.body (p.code.k * w)) of.width in
-    let label : Label = record { number = taken.rtp; end = 0; timestamp = time; offset = off } in
-    (none, record { code = puts.code ∙ of.code; width = puts.width ∙ of.width }, λ es known.
-    let xs = source_stream p (rtp_part es) in
-    let count : taken.rtp ≡ length (rtp_part es) = ap (λ (t : Taken). t.rtp) known.counts in
-    let text : next_text encoder.code encoder.width xs label (frame_bytes off packet (encoder.code.k * encoder.width)) ≡ slot_text p (rtp_part es ++ e ∷ []) (length (rtp_part es)) =
-    ap (λ (c : Code ℕ). next_text c encoder.width xs label (frame_bytes off packet (encoder.code.k * encoder.width))) of.code
-    ∙ ap (λ w. next_text p.code w xs label (frame_bytes off packet (encoder.code.k * encoder.width))) of.width
-    ∙ ap (next_text p.code p.m xs label) block
-    ∙ source_slot p (rtp_part es) e taken.rtp time off count stamp eo in
-    let grown : xs ++ cut encoder.code.k encoder.width (frame_bytes off packet (encoder.code.k * encoder.width)) ∷ [] ≡ source_stream p (rtp_part (es ++ e ∷ [])) =
-    ap (λ (c : Code ℕ). xs ++ cut c.k encoder.width (frame_bytes off packet (encoder.code.k * encoder.width)) ∷ []) of.code
-    ∙ ap (λ w. xs ++ cut p.code.k w (frame_bytes off packet (encoder.code.k * encoder.width)) ∷ []) of.width
-    ∙ ap (λ b. xs ++ cut p.code.k p.m b ∷ []) block
-    ∙ sym (stream_push p (rtp_part es) e) ∙ ap (source_stream p) (sym (rtp_part-yes es e (ap (is_kind Rtp) k))) in (
-      record {
-        counts = rtp_more e taken time off k stamp eo es known.counts;
-        stands = subst (StandsFor encoder') grown (puts.stands xs known.stands);
-      },
-      puts.waits xs known.stands ∙ ap (λ l. before ++ l) text
-          ∙ ap (λ b. before ++ cond b (slot_text p (rtp_part es ++ e ∷ []) (length (rtp_part es))) []) (sym (ap (is_kind Rtp) k)),
-    ))
+    let label : Label = record { number = taken.rtp; end = 0; timestamp = time; offset = off } in (
+      none,
+      record { code = puts.code ∙ of.code; width = puts.width ∙ of.width },
+      λ es known.
+          let xs = source_stream p (rtp_part es) in
+          let count : taken.rtp ≡ length (rtp_part es) = ap (λ (t : Taken). t.rtp) known.counts in
+          let text : next_text encoder.code encoder.width xs label (frame_bytes off packet (encoder.code.k * encoder.width)) ≡ slot_text p (rtp_part es ++ e ∷ []) (length (rtp_part es)) =
+          ap (λ (c : Code ℕ). next_text c encoder.width xs label (frame_bytes off packet (encoder.code.k * encoder.width))) of.code
+          ∙ ap (λ w. next_text p.code w xs label (frame_bytes off packet (encoder.code.k * encoder.width))) of.width
+          ∙ ap (next_text p.code p.m xs label) block
+          ∙ source_slot p (rtp_part es) e taken.rtp time off count stamp eo in
+          let grown : xs ++ cut encoder.code.k encoder.width (frame_bytes off packet (encoder.code.k * encoder.width)) ∷ [] ≡ source_stream p (rtp_part (es ++ e ∷ [])) =
+          ap (λ (c : Code ℕ). xs ++ cut c.k encoder.width (frame_bytes off packet (encoder.code.k * encoder.width)) ∷ []) of.code
+          ∙ ap (λ w. xs ++ cut p.code.k w (frame_bytes off packet (encoder.code.k * encoder.width)) ∷ []) of.width
+          ∙ ap (λ b. xs ++ cut p.code.k p.m b ∷ []) block
+          ∙ sym (stream_push p (rtp_part es) e) ∙ ap (source_stream p) (sym (rtp_part-yes es e (ap (is_kind Rtp) k))) in (
+            record {
+              counts = rtp_more e taken time off k stamp eo es known.counts;
+              stands = subst (StandsFor encoder') grown (puts.stands xs known.stands);
+            },
+            puts.waits xs known.stands ∙ ap (λ l. before ++ l) text
+                ∙ ap (λ b. before ++ cond b (slot_text p (rtp_part es ++ e ∷ []) (length (rtp_part es))) []) (sym (ap (is_kind Rtp) k)),
+          ),
+    )
 
 -- ---- one record
 -- it was read, and counted

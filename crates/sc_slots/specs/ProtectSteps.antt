@@ -17,15 +17,14 @@ use Rattle.sc_matrix.specs.Layout.{cut}
 use Rattle.sc_code.specs.Code.{Code, IsCode}
 use Rattle.sc_code.specs.Encoder.{Encoder, StandsFor}
 use Rattle.sc_code.specs.Parity.{parity}
-use Rattle.sc_code.specs.Stream.{zero_block}
 use Rattle.sc_slots.specs.declared.maker.Label.{Label}
 use Rattle.sc_slots.specs.declared.protect.ProtectFault.{ProtectFault}
-use Rattle.sc_slots.specs.declared.protect.ProtectFault.TheVariants.{TooWide, Dump, TooManyRecords, TooLong, TooManySlots, Write, Memory}
+use Rattle.sc_slots.specs.declared.protect.ProtectFault.TheVariants.{Dump, Write, Memory}
 use Rattle.sc_slots.specs.declared.protect.Protected.{Protected}
 use Rattle.sc_slots.specs.declared.protect.Taken.{Taken}
 use Rattle.sc_slots.specs.Frame.{frame_bytes}
 use Rattle.sc_slots.specs.Slot.{Slot, slot_bytes}
-use Rattle.sc_slots.specs.Protected.{Protection, packet_len, has_kind, rtp_part, blocks, stream, timestamp_of, slot_text, slots_text, source_text, all_text, refusal, first_refused, numbers}
+use Rattle.sc_slots.specs.Protected.{Protection, has_kind, rtp_part, timestamp_of, slot_text, slots_text, source_text, all_text, refusal, first_refused, numbers}
 
 -- ---- one slot
 

@@ -1,14 +1,14 @@
 -- The protected capture: the preamble of a capture, and then a protected packet for each slot of a stream. The blocks of
 -- the stream are the frames of the capture's RTP records in order, and behind them a zero block for each slot of the
 -- deadline. What of a capture is refused, and what protecting one owes. Of this project.
-use Rattle.std.specs.Prelude.{◌≡◌, ℕ, zero, suc, ◌+◌, ◌-◌, ◌*◌, Bool, true, false, min, Option, Some, None, List, [], ◌∷◌, ◌++◌, length, take, map, filter, replicate, count_by, nat_le, nat_lt, is_ok, slice_index_or, Result, Ok, Err, if◌then◌else◌}
+use Rattle.std.specs.Prelude.{ℕ, zero, suc, ◌+◌, ◌-◌, ◌*◌, Bool, true, false, min, Option, Some, None, List, [], ◌++◌, length, take, map, filter, replicate, count_by, nat_le, nat_lt, slice_index_or, Result, Ok, Err, if◌then◌else◌}
 use Rattle.std.specs.List.{flat_map, concat, range_with_len}
 use Rattle.sc_outside.specs.Ends.{Due, Job, only, at_once}
 use Rattle.sc_rtp.specs.Head.{head_of}
 use Rattle.sc_rtpdump.specs.declared.fault.DumpFault.TheVariants.{Preamble, Read, Memory as NoRoom}
 use Rattle.sc_rtpdump.specs.declared.kind.Kind.{Kind}
 use Rattle.sc_rtpdump.specs.declared.kind.Kind.TheVariants.{Rtcp, Cut, Strange, Rtp}
-use Rattle.sc_rtpdump.specs.Record.{Record, empty_record, Front, ends, breaks, starts, front_of}
+use Rattle.sc_rtpdump.specs.Record.{Record, empty_record, Front, breaks, front_of}
 use Rattle.sc_rtpdump.specs.Capture.{Parts, Reading, no_preamble, reads, reading_of}
 use Rattle.sc_rtpdump.specs.Kind.{kind}
 use Rattle.sc_rtpdump.specs.Thin.{break_fault}

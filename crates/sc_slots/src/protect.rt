@@ -20,6 +20,9 @@ use std::alloc::Global;
 use std::error::Error;
 use std::fmt;
 
+#[cfg(test)]
+mod tests;
+
 /// The least size of a packet to protect, in bytes: that of the fixed head (RFC 3550, 5.1).
 pub const MIN_SIZE: u16 = 12;
 
@@ -187,10 +190,8 @@ fn put_source(
 {
     let packet = rec.body();
     if packet.len() > usize::from(size) {
-        return Err(ProtectFault::TooLong {
-            index,
-            length: packet.len() as u32,
-        });
+        let length = packet.len() as u32;
+        return Err(ProtectFault::TooLong { index, length });
     }
     if taken.rtp >= MAX_SLOTS - file.channel.t() {
         return Err(ProtectFault::TooManySlots);

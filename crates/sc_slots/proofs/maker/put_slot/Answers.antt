@@ -1,4 +1,4 @@
-use Rattle.std.proofs.Common.{◌≡◌, ◌*◌, length, ap, sym, ◌∙◌}
+use Rattle.std.proofs.Common.{◌≡◌, ◌*◌, length, ap, ◌∙◌}
 use Rattle.sc_code.specs.Code.{Code}
 use Rattle.sc_slots.proofs.MakerSteps.{three_behind, slot_spelled}
 use Rattle.sc_slots.proofs.maker.put_slot.Goals as goal

@@ -1,6 +1,5 @@
-use Rattle.std.proofs.Common.{◌<◌, refl, ◌∙◌, arith}
+use Rattle.std.proofs.Common.{refl, ◌∙◌, arith}
 use Rattle.std.proofs.lemmas.Result.{err_from_is_err_and}
-use Rattle.sc_slots.specs.Protected.{Protection}
 use Rattle.sc_slots.specs.ProtectSteps.{IsOf}
 use Rattle.sc_slots.proofs.FlushSteps.{Flushed-none, Flushed-more, flush_failed}
 use Rattle.sc_slots.proofs.protect.put_flush.Goals as goal
