@@ -1,6 +1,6 @@
 -- Protected packets: how a slot, which is a block of k symbols and its parity of r symbols, stands in an RTP packet and in
 -- a record of a capture. A symbol has m bytes. All numbers are big-endian. Of this project, version 1.
-use Rattle.std.specs.Prelude.{◌≡◌, ◌≢◌, ◌⊎◌, ℕ, ◌+◌, ◌*◌, ◌%◌, ◌^◌, ◌<◌, ◌≤◌, List, [], ◌∷◌, ◌++◌, length, take, drop, replicate, slice_index, codes}
+use Rattle.std.specs.Prelude.{◌≡◌, ◌≢◌, ◌⊎◌, ℕ, ◌+◌, ◌*◌, ◌%◌, ◌^◌, ◌<◌, ◌≤◌, List, [], ◌∷◌, ◌++◌, length, take, drop, slice_index, codes}
 use Rattle.std.specs.Int.{w16, w32, to_be_bytes}
 use Rattle.sc_rtp.specs.Head.{head_bytes, number16, number32}
 use Rattle.sc_rtp.specs.Packet.{plain_head}

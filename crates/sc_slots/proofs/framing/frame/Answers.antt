@@ -1,4 +1,4 @@
-use Rattle.std.proofs.Common.{◌≡◌, ◌+◌, ◌++◌, List, ℕ, length, ◌∙◌, sym, subst, arith}
+use Rattle.std.proofs.Common.{◌≡◌, ◌++◌, List, ℕ, length, ◌∙◌, sym, subst, arith}
 use Rattle.sc_slots.specs.Frame.{frame_bytes, IsFrame}
 use Rattle.sc_slots.proofs.FrameLaws.{frame-written, frame-there}
 use Rattle.sc_slots.proofs.framing.frame.Goals as goal

@@ -1,4 +1,4 @@
-use Rattle.std.proofs.Common.{◌≡◌, sym, ◌∙◌, subst}
+use Rattle.std.proofs.Common.{sym, ◌∙◌, subst}
 use Rattle.sc_slots.specs.Slot.{IsSlotRecord}
 use Rattle.sc_slots.specs.Answers.{head_in}
 use Rattle.sc_slots.proofs.SlotLaws.{slot_behind-record}

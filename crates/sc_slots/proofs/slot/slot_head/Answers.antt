@@ -1,5 +1,5 @@
 use Rattle.std.proofs.Common.{ℕ, ◌+◌, ◌*◌, refl, ap, ◌∙◌, arith}
-use Rattle.sc_slots.specs.Answers.{slot_in, head_in}
+use Rattle.sc_slots.specs.Answers.{slot_in}
 use Rattle.sc_slots.proofs.SlotLaws.{slot_bytes-made}
 use Rattle.sc_slots.proofs.slot.slot_head.Goals as goal
 

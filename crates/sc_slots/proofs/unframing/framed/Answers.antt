@@ -1,8 +1,8 @@
-use Rattle.std.proofs.Common.{◌≡◌, ◌<◌, ◌≤◌, ◌-◌, ℕ, List, length, take, drop, refl, sym, ap, ◌∙◌, subst, arith}
+use Rattle.std.proofs.Common.{◌≡◌, ◌<◌, ◌≤◌, ◌-◌, ℕ, List, length, take, drop, sym, ap, ◌∙◌, subst, arith}
 use Rattle.std.proofs.lemmas.List.{take_rest}
 use Rattle.sc_rtp.proofs.ViewSteps.{are_bytes}
 use Rattle.sc_slots.specs.Frame.{IsBlank, IsFrame}
-use Rattle.sc_slots.proofs.FrameLaws.{no_frame-short, no_frame-empty, no_frame-long, no_frame-tail, frame-read, length_in}
+use Rattle.sc_slots.proofs.FrameLaws.{no_frame-empty, no_frame-long, no_frame-tail, frame-read}
 use Rattle.sc_slots.proofs.unframing.framed.Goals as goal
 
 -- a slice of the bytes behind the front, and a slice of that

@@ -1,4 +1,4 @@
-use Rattle.std.proofs.Common.{◌≡◌, ◌++◌, drop, List, ℕ, sym, ap, ◌∙◌, subst}
+use Rattle.std.proofs.Common.{◌++◌, drop, List, ℕ, sym, ap, ◌∙◌, subst}
 use Rattle.std.proofs.lemmas.List.{take_rest}
 use Rattle.sc_rtp.proofs.ViewSteps.{are_bytes}
 use Rattle.sc_slots.specs.Slot.{SlotHead, FitsFields, slot_head_bytes}
