@@ -1,20 +1,17 @@
 -- What a run owes by the bytes of a code file, and how it ends by them.
-use Rattle.std.proofs.Common.{◌≡◌, ◌⊎◌, inl, inr, ℕ, ◌<◌, ◌≤◌, Bool, true, false, List, length, nat_lt, Result, Ok, Err, refl, sym, ap, ◌∙◌, subst, arith, if◌then◌else◌}
+use Rattle.std.proofs.Common.{◌≡◌, inl, inr, ℕ, ◌<◌, ◌≤◌, true, false, List, length, nat_lt, Ok, Err, refl, sym, ap, ◌∙◌, subst, arith}
 use Rattle.std.proofs.lemmas.Bool.Decides.{nat_tests}
-use Rattle.sc_outside.specs.Cabinet.{CabinetTold, Fetched}
+use Rattle.sc_outside.specs.Cabinet.{CabinetTold}
 use Rattle.sc_outside.specs.Port.{Told}
 use Rattle.sc_outside.proofs.EndsLaws.{Ends-at_once}
 use Rattle.sc_code.specs.declared.code.CodeFile.{CodeFile}
-use Rattle.sc_codefile.specs.declared.fault.FileFault.{FileFault}
-use Rattle.sc_codefile.specs.declared.fault.FileFault.TheVariants.{NotJson, Shape, Range, Memory}
 use Rattle.sc_codefile.specs.Reading.{code_reading}
 use Rattle.streamcode.specs.declared.end.Role.TheVariants.{Code}
 use Rattle.streamcode.specs.declared.end.End.{End}
-use Rattle.streamcode.specs.declared.end.End.TheVariants.{FileRefused, FileTooLong, ReadFault, WriteFault, NoMemory}
-use Rattle.streamcode.specs.End.{end_of_file}
+use Rattle.streamcode.specs.declared.end.End.TheVariants.{FileTooLong, ReadFault, WriteFault, NoMemory}
 use Rattle.streamcode.specs.Files.{by_code, by_bytes, code_plan, CodeRefused, CodeCame}
 use Rattle.streamcode.specs.Jobs.{refusal}
-use Rattle.streamcode.specs.Plans.{Plan, owes, fetches, most_fetched, FetchEnds, PlanEnds}
+use Rattle.streamcode.specs.Plans.{Plan, owes, most_fetched, PlanEnds}
 
 -- which plan is left by the bytes
 left_short : (next : CodeFile → Plan) (bytes : List ℕ) → length bytes < most_fetched → by_bytes next bytes ≡ by_code next (code_reading bytes)
@@ -47,38 +44,3 @@ module _ {P : Type 0} (told : P → Told) where
       → PlanEnds told (next file) mid new before after end → PlanEnds told (code_plan name next) old new before after end
   came-file next old mid new name before after file end (bytes, fetched, short, reading) h =
       inr (mid, bytes, fetched, subst (λ plan. PlanEnds told plan mid new before after end) (sym (left_short next bytes short ∙ ap (by_code next) reading)) h)
-
--- how a file that came is told: as its code file, or how the run ends
-pub came-long : (old new : CabinetTold) (name bytes : List ℕ) → Fetched old new name most_fetched bytes → length bytes ≡ most_fetched → CodeCame old new name (Err (FileTooLong Code))
-came-long old new name bytes fetched full = inr (bytes, fetched, inl (refl, omega (arith, full)))
-
--- what reading answers, at a fault
-abbrev pub answer : FileFault → Result CodeFile FileFault
-answer fault = Err fault
-
-fault_of : (fault other : FileFault) → answer fault ≡ answer other → fault ≡ other
-fault_of fault other is = cc
-
-short_of : (old new : CabinetTold) (name bytes : List ℕ) → Fetched old new name most_fetched bytes → (length bytes ≡ most_fetched → ⊥) → length bytes < most_fetched
-short_of old new name bytes fetched not = let bound = fetched.bound in grind (arith, bound, not)
-
-pub came-read : (old new : CabinetTold) (name bytes : List ℕ) (file : CodeFile) → Fetched old new name most_fetched bytes → (length bytes ≡ most_fetched → ⊥)
-    → (Ok file ≡ answer Memory) ⊎ (Ok file ≡ code_reading bytes) → CodeCame old new name (Ok file)
-came-read old new name bytes file fetched not (inl no) = absurd (cc)
-came-read old new name bytes file fetched not (inr is) = (bytes, fetched, short_of old new name bytes fetched not, sym is)
-
-memory_end : (old new : CabinetTold) (name bytes : List ℕ) → Fetched old new name most_fetched bytes → CodeCame old new name (Err NoMemory)
-memory_end old new name bytes fetched = inl (inr (refl, record { files = fetched.files; faults = fetched.faults }))
-
-faulty : (old new : CabinetTold) (name bytes : List ℕ) (fault : FileFault) → Fetched old new name most_fetched bytes → (length bytes ≡ most_fetched → ⊥)
-    → answer fault ≡ code_reading bytes → CodeCame old new name (Err (end_of_file Code fault))
-faulty old new name bytes NotJson fetched not is = inr (bytes, fetched, inr (NotJson, refl, short_of old new name bytes fetched not, sym is))
-faulty old new name bytes (Shape key) fetched not is = inr (bytes, fetched, inr (Shape key, refl, short_of old new name bytes fetched not, sym is))
-faulty old new name bytes (Range key) fetched not is = inr (bytes, fetched, inr (Range key, refl, short_of old new name bytes fetched not, sym is))
-faulty old new name bytes Memory fetched not is = memory_end old new name bytes fetched
-
-pub came-faulty : (old new : CabinetTold) (name bytes : List ℕ) (fault : FileFault) → Fetched old new name most_fetched bytes → (length bytes ≡ most_fetched → ⊥)
-    → (answer fault ≡ answer Memory) ⊎ (answer fault ≡ code_reading bytes) → CodeCame old new name (Err (end_of_file Code fault))
-came-faulty old new name bytes fault fetched not (inl no) =
-    subst (λ f. CodeCame old new name (Err (end_of_file Code f))) (sym (fault_of fault Memory no)) (memory_end old new name bytes fetched)
-came-faulty old new name bytes fault fetched not (inr is) = faulty old new name bytes fault fetched not is

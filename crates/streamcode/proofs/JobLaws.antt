@@ -1,5 +1,5 @@
 -- What the jobs of the program's commands keep, and how they end.
-use Rattle.std.proofs.Common.{◌≡◌, ◌⊎◌, inl, inr, ℕ, ◌≤◌, Bool, true, false, cond, nat_lt, Option, None, Some, List, [], length, Result, Ok, Err, refl, sym, subst, arith}
+use Rattle.std.proofs.Common.{◌≡◌, ◌⊎◌, inl, inr, ℕ, ◌≤◌, Bool, true, false, cond, nat_lt, Option, None, Some, List, [], length, Result, Ok, Err, refl, sym, ap, subst, arith}
 use Rattle.sc_outside.specs.Ends.{Job, told_as, IsJob, Ends}
 use Rattle.sc_outside.specs.Port.{Told}
 use Rattle.sc_outside.proofs.EndsLaws.{Ends-at_once, Ends-no_memory, Ends-told_as, IsJob-told_as, IsJob-at_once, IsPrefix-nil}
@@ -182,13 +182,13 @@ ended file size = ended_within (nat_lt 65527 (packet_len (protection_of file siz
 
 pub protect_job-is : (file : CodeFile) (size : ℕ) → IsProgramJob (protect_job file size)
 protect_job-is file size =
-    let as = ended file size in
+    let outside = ended file size in
     record {
       run = record {
         is_job = IsJob-told_as end_of_protect (protecting file size) (protecting-IsJob file size);
-        read_failed = ap end_of_protect as.read_failed;
-        write_failed = ap end_of_protect as.write_failed;
-        no_memory = ap end_of_protect as.no_memory;
+        read_failed = ap end_of_protect outside.read_failed;
+        write_failed = ap end_of_protect outside.write_failed;
+        no_memory = ap end_of_protect outside.no_memory;
       };
       of_input = λ input. decided_of_input _ (protecting-decided file size input);
     }

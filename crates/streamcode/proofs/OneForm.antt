@@ -178,12 +178,12 @@ protect_of-to (code ∷ a ∷ []) command is =
     subst (AreItsWords (codes "protect" ∷ code ∷ a ∷ [])) parts.is (cc, (parts.least, size_text.1))
 protect_of-to (code ∷ a ∷ more ∷ rest) command is = absurd (cc)
 
-named : (name : List ℕ) (words : List (List ℕ)) (command : Command) (lose gen protect : Bool)
-    → bytes_eq name (codes "lose") ≡ lose → bytes_eq name (codes "gen") ≡ gen → bytes_eq name (codes "protect") ≡ protect
-    → cond lose (lose_of words) (cond gen (gen_of words) (cond protect (protect_of words) None)) ≡ Some command → AreItsWords (name ∷ words) command
-named name words command true gen protect l g p is =
+named : (name : List ℕ) (words : List (List ℕ)) (command : Command) (is_lose is_gen is_protect : Bool)
+    → bytes_eq name (codes "lose") ≡ is_lose → bytes_eq name (codes "gen") ≡ is_gen → bytes_eq name (codes "protect") ≡ is_protect
+    → cond is_lose (lose_of words) (cond is_gen (gen_of words) (cond is_protect (protect_of words) None)) ≡ Some command → AreItsWords (name ∷ words) command
+named name words command true is_gen is_protect l g p is =
     subst (λ n. AreItsWords (n ∷ words) command) (sym ((bytes_eq-Decides name (codes "lose")).0 l)) (lose_of-to words command is)
-named name words command false true protect l g p is =
+named name words command false true is_protect l g p is =
     subst (λ n. AreItsWords (n ∷ words) command) (sym ((bytes_eq-Decides name (codes "gen")).0 g)) (gen_of-to words command is)
 named name words command false false true l g p is =
     subst (λ n. AreItsWords (n ∷ words) command) (sym ((bytes_eq-Decides name (codes "protect")).0 p)) (protect_of-to words command is)

@@ -11,9 +11,10 @@ use Rattle.sc_codefile.specs.declared.fault.FileFault.{FileFault}
 use Rattle.sc_codefile.specs.Reading.{code_reading}
 use Rattle.streamcode.specs.declared.end.Role.TheVariants.{Code}
 use Rattle.streamcode.specs.declared.end.End.{End}
-use Rattle.streamcode.specs.declared.end.End.TheVariants.{Usage, ReadFault}
+use Rattle.streamcode.specs.declared.end.End.TheVariants.{FileTooLong, Usage, ReadFault}
 use Rattle.streamcode.specs.End.{status_of}
-use Rattle.streamcode.specs.Jobs.{refusal}
+use Rattle.streamcode.specs.Files.{by_code, by_bytes}
+use Rattle.streamcode.specs.Jobs.{refusal, protect_job}
 use Rattle.streamcode.specs.Plans.{Plan, owes, fetches, most_fetched, due_by, due_of, PlanEnds, IsSilentPlan, LacksOne}
 use Rattle.streamcode.specs.Runs.{command_plan, files_of, IsDueStatus, ReadRose, IsOutsideStatus, IsQuiet}
 use Rattle.streamcode.specs.Words.{Command, lose_word, generate, protect}
@@ -46,7 +47,7 @@ run_plan names (fetches name next) p = λ bytes. run_plan names (next bytes) (p.
 -- what is owed by the bytes of a code file
 reading_plan : (names : List (List ℕ)) (next : CodeFile → Plan) → ((file : CodeFile) → IsProgramPlan names (next file)) → (reading : Result CodeFile FileFault) → IsProgramPlan names (by_code next reading)
 reading_plan names next h (Ok file) = h file
-reading_plan names next h (Err fault) = file_refused-is Code fault
+reading_plan names next h (Err why) = file_refused-is Code why
 
 bytes_plan_by : (names : List (List ℕ)) (next : CodeFile → Plan) → ((file : CodeFile) → IsProgramPlan names (next file)) → (bytes : List ℕ) (short : Bool)
     → IsProgramPlan names (if short then by_code next (code_reading bytes) else owes (refusal true (FileTooLong Code)))
