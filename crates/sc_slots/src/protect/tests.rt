@@ -1,5 +1,7 @@
 //! Worked captures, in memory.
 
+ghost use Rattle.std.specs.Prelude.{◌<◌, ◌≤◌};
+
 use super::*;
 use sc_channel::Channel;
 use sc_code::Code;
