@@ -511,10 +511,3 @@ narrow_end file size packet a b result e narrow x =
 
 pub no_memory_end : (file : CodeFile) (size packet : ℕ) (a : Told) → packet ≡ packet_len (protection_of file size) → packet ≤ 65527 → Ends (protecting file size) a a (Err Memory)
 no_memory_end file size packet a e narrow = narrow_end file size packet a a (Err Memory) e narrow (Ends-no_memory (protecting_by (protection_of file size)) a refl)
-
--- the port is left alone only where the packet is too wide
-pub reads_there : (file : CodeFile) (size packet : ℕ) → packet ≡ packet_len (protection_of file size) → packet ≤ 65527 → (protecting file size).reads ≡ false → ⊥
-reads_there file size packet e narrow h =
-    let p = protection_of file size in
-    let test : nat_lt 65527 (packet_len (protection_of file size)) ≡ false = le-ltb 65527 (packet_len p) (omega (arith, e, narrow)) in
-    let no : true ≡ false = ap (λ t. (protecting_within t p).reads) (sym test) ∙ h in cc

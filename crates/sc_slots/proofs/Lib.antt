@@ -15,3 +15,4 @@ pub mod MakerSteps
 pub mod TakeSteps
 pub mod FlushSteps
 pub mod EndSteps
+pub mod CaptureSteps

@@ -1,17 +1,15 @@
 -- The steps of protecting: what one record adds to what is kept and what waits.
-use Rattle.std.proofs.Common.{◌≡◌, ℕ, ◌+◌, ◌-◌, ◌*◌, ◌<◌, ◌≤◌, Bool, true, false, cond, nat_le, nat_lt, min, Some, None, List, [], ◌∷◌, ◌++◌, length, get_or, count_by, Ok, refl, sym, ap, ◌∙◌, subst, arith, append-nil, append_assoc, length-append}
+use Rattle.std.proofs.Common.{◌≡◌, ℕ, ◌+◌, ◌-◌, ◌*◌, ◌<◌, ◌≤◌, Bool, true, false, cond, nat_le, nat_lt, min, Some, None, List, [], ◌∷◌, ◌++◌, length, get_or, count_by, Ok, refl, sym, ap, ◌∙◌, subst, arith, append-nil, length-append}
 use Rattle.std.specs.List.{concat}
-use Rattle.std.proofs.lemmas.Bool.{lt-ltb, le-ltb}
+use Rattle.std.proofs.lemmas.Bool.{le-ltb}
 use Rattle.std.proofs.lemmas.Bool.Decides.{nat_tests}
 use Rattle.std.proofs.lemmas.List.{get_or_push, map_push}
 use Rattle.std.proofs.lemmas.List.Sums.{sum_by_push, length-filter, count_by-le-length}
 use Rattle.sc_outside.specs.Port.{Told}
-use Rattle.sc_rtp.specs.Packet.{words_bytes, extension_bytes, padding_bytes}
-use Rattle.sc_rtp.specs.Head.{head_bytes}
 use Rattle.sc_rtpdump.specs.declared.fault.DumpFault.{DumpFault}
 use Rattle.sc_rtpdump.specs.declared.kind.Kind.{Kind}
 use Rattle.sc_rtpdump.specs.declared.kind.Kind.TheVariants.{Rtcp, Cut, Strange, Rtp}
-use Rattle.sc_rtpdump.specs.Kind.{kind, IsRtp}
+use Rattle.sc_rtpdump.specs.Kind.{kind}
 use Rattle.sc_rtpdump.specs.Record.{Record, IsRecord, empty_record, record_bytes}
 use Rattle.sc_rtpdump.specs.Thin.{Carries, StopsBehind}
 use Rattle.sc_field.specs.Gf256.{gf256_product}
@@ -26,14 +24,8 @@ use Rattle.sc_slots.specs.declared.protect.Taken.{Taken}
 use Rattle.sc_slots.specs.Frame.{frame_bytes}
 use Rattle.sc_slots.specs.Slot.{slot_bytes}
 use Rattle.sc_slots.specs.Protected.{Protection, is_kind, has_kind, rtp_part, blocks, stream, source_of, timestamp_of, slot_text, refusal}
-use Rattle.sc_slots.specs.ProtectSteps.{next_text, PutsSlot, last_source, taken_of, source_stream, Knows, IsOf, AreFew, more_text, Counts, HaltsAt, HaltsBehind, TakesRecord}
+use Rattle.sc_slots.specs.ProtectSteps.{next_text, PutsSlot, last_source, taken_of, source_stream, Knows, IsOf, AreFew, Counts, HaltsAt, HaltsBehind}
 use Rattle.sc_slots.proofs.ProtectedLaws.{refusal_by, refusal-is, refusal-IsRefusal, frame_in, rtp_part-yes, rtp_part-no, source_there, same_slot, length-source_stream}
-
--- ---- an RTP packet has a head
-pub rtp_head : (e : Record) → IsRtp e → 12 ≤ length e.body
-rtp_head e h =
-    let q = h.packet in
-    omega (arith, ap length h.is.parts, length-append (head_bytes q.head) (words_bytes q.csrcs ++ (extension_bytes q.extension ++ (q.payload ++ padding_bytes q.padding))))
 
 -- ---- which refusal
 by_many : (a b c d : Bool) (i l : ℕ) → a ≡ true → refusal_by a b c d i l ≡ Some TooManyRecords
@@ -44,19 +36,6 @@ by_other : (a b c d : Bool) (i l : ℕ) → a ≡ false → b ≡ false → refu
 by_other true b c d i l h g = absurd (cc)
 by_other false true c d i l h g = absurd (cc)
 by_other false false c d i l h g = refl
-
-by_long : (a b c d : Bool) (i l : ℕ) → a ≡ false → b ≡ true → c ≡ true → refusal_by a b c d i l ≡ Some (TooLong i l)
-by_long true b c d i l h g f = absurd (cc)
-by_long false false c d i l h g f = absurd (cc)
-by_long false true false d i l h g f = absurd (cc)
-by_long false true true d i l h g f = refl
-
-by_full : (a b c d : Bool) (i l : ℕ) → a ≡ false → b ≡ true → c ≡ false → d ≡ true → refusal_by a b c d i l ≡ Some TooManySlots
-by_full true b c d i l h g f e = absurd (cc)
-by_full false false c d i l h g f e = absurd (cc)
-by_full false true true d i l h g f e = absurd (cc)
-by_full false true false false i l h g f e = absurd (cc)
-by_full false true false true i l h g f e = refl
 
 by_none : (a b c d : Bool) (i l : ℕ) → a ≡ false → b ≡ true → c ≡ false → d ≡ false → refusal_by a b c d i l ≡ None
 by_none true b c d i l h g f e = absurd (cc)
@@ -77,17 +56,6 @@ pub refusal-other : (p : Protection) (index before : ℕ) (e : Record) → index
 refusal-other p index before e h k =
     let few : nat_le 8000000 index ≡ false = grind (arith, nat_tests) in
     refusal-is p index before e ∙ by_other (nat_le 8000000 index) (has_kind Rtp e) (nat_lt p.size (length e.body)) (nat_le (4000000 - p.deadline) before) index (length e.body) few k
-
-pub refusal-long : (p : Protection) (index before : ℕ) (e : Record) → index < 8000000 → has_kind Rtp e ≡ true → p.size < length e.body → refusal p index before e ≡ Some (TooLong index (length e.body))
-refusal-long p index before e h k l =
-    let few : nat_le 8000000 index ≡ false = grind (arith, nat_tests) in
-    refusal-is p index before e ∙ by_long (nat_le 8000000 index) (has_kind Rtp e) (nat_lt p.size (length e.body)) (nat_le (4000000 - p.deadline) before) index (length e.body) few k (lt-ltb p.size (length e.body) l)
-
-pub refusal-full : (p : Protection) (index before : ℕ) (e : Record) → index < 8000000 → has_kind Rtp e ≡ true → length e.body ≤ p.size → 4000000 - p.deadline ≤ before → refusal p index before e ≡ Some TooManySlots
-refusal-full p index before e h k l n =
-    let few : nat_le 8000000 index ≡ false = grind (arith, nat_tests) in
-    let full : nat_le (4000000 - p.deadline) before ≡ true = grind (arith, nat_tests) in
-    refusal-is p index before e ∙ by_full (nat_le 8000000 index) (has_kind Rtp e) (nat_lt p.size (length e.body)) (nat_le (4000000 - p.deadline) before) index (length e.body) few k (le-ltb p.size (length e.body) l) full
 
 pub refusal-none : (p : Protection) (index before : ℕ) (e : Record) → index < 8000000 → has_kind Rtp e ≡ true → length e.body ≤ p.size → before < 4000000 - p.deadline → refusal p index before e ≡ None
 refusal-none p index before e h k l n =
@@ -234,24 +202,6 @@ source_counts p index e taken encoder encoder' before after packet time off k ep
     )
 
 -- ---- one record
--- it was read, and counted
-pub record_taken : (p : Protection) (index : ℕ) (a b : Told) (e : Record) (taken taken' : Taken) (encoder encoder' : Encoder ℕ) (before mid after : List ℕ) → IsRecord e → Carries a b (record_bytes e) [] before mid
-    → Counts p index e taken taken' encoder encoder' mid after (Ok tt) → TakesRecord p index a b taken taken' encoder encoder' before after
-record_taken p index a b e taken taken' encoder encoder' before mid after fits x c = record {
-  next = e;
-  fits = fits;
-  accepted = c.0;
-  is_of = c.1;
-  known = λ es known. let k = c.2 es known in (
-    k.0,
-    record {
-      put = x.put;
-      moves = x.moves;
-      parts = ap (λ l. l ++ more_text p es e) (sym (append-nil before) ∙ x.parts) ∙ append_assoc x.put mid (more_text p es e) ∙ ap (λ l. x.put ++ l) (sym k.1);
-    },
-  );
-}
-
 halts_by : (p : Protection) (index rtp : ℕ) (a b : Told) (e : Record) (fault : ProtectFault) → IsRecord e → refusal p index rtp e ≡ Some fault → HaltsAt p index rtp a b (record_bytes e) fault
 halts_by p index rtp a b e (TooWide n) fits why = record { next = e; fits = fits; spelled = refl; why = why }
 halts_by p index rtp a b e (Dump fault) fits why = absurd (refusal-dump p index rtp e fault why)

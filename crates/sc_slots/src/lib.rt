@@ -13,7 +13,10 @@ mod unframing;
 
 pub use framing::{frame, width};
 pub use laws::{one_frame, one_slot};
-pub use protect::{MAX_SIZE, MIN_SIZE, ProtectFault, Protected, protect_all, protecting_is_a_job};
+pub use protect::{
+    MAX_SIZE, MIN_SIZE, ProtectFault, Protected, protect_all, protected_is_a_capture,
+    protecting_is_a_job,
+};
 pub use slot::{Slot, SlotReading, read_slot, slot_head, write_slot};
 pub use unframing::{BadBlock, Frame, unframe};
 

@@ -9,6 +9,7 @@ ghost use Rattle.sc_rtp.specs.Head.{head_of};
 ghost use Rattle.sc_rtpdump.specs.Record.{IsRecord};
 ghost use Rattle.sc_rtpdump.specs.Kind.{kind};
 ghost use Rattle.sc_slots.specs.Protected.{IsOfInput, Protection, protecting, protecting_by, protection_of};
+ghost use Rattle.sc_slots.specs.ProtectedLaws.{ProtectedAreCaptures, ProtectedAreCounted, ProtectedAreRtp, SlotsAreWellShaped};
 ghost use Rattle.sc_slots.specs.ProtectSteps.{AreFew, Counts, FlushesGive, IsOf, Knows, LastGives, RecordsGive, RestGives, StepGives, fault_of, taken_of};
 
 use super::framing::width;
@@ -463,4 +464,14 @@ pub fn protect_all<P: Port>(
 pub fn protecting_is_a_job()
     ensures grows { (file : CodeFileOf) (size : ℕ) → IsJob (protecting file size) }
     ensures decided { (file : CodeFileOf) (size : ℕ) (input : List ℕ) → IsOfInput ((protecting file size).whole input).answer }
+{}
+
+/// The protected capture of a capture none of whose records is refused is a capture: its preamble, and a record for each RTP
+/// record and for each slot of the deadline, each of them an RTP packet and a well shaped slot. It does nothing; its
+/// contract is the law.
+pub fn protected_is_a_capture()
+    ensures capture { ProtectedAreCaptures }
+    ensures count { ProtectedAreCounted }
+    ensures kind { ProtectedAreRtp }
+    ensures shape { SlotsAreWellShaped }
 {}

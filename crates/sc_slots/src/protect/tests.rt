@@ -1,5 +1,7 @@
 //! Worked captures, in memory.
 
+ghost use Rattle.std.specs.Prelude.{◌<◌, ◌≤◌};
+
 use super::*;
 use sc_channel::Channel;
 use sc_code::Code;
@@ -303,6 +305,7 @@ fn refuses_wide_packets(rt: HostRuntime) -> Result<(), Fail> {
     );
     assert_eq!(rt; port.given().len(), 44 + 3 * 65_064);
     protecting_is_a_job();
+    protected_is_a_capture();
     Ok(())
 }
 
