@@ -105,8 +105,12 @@ fn file_note(role: Role, fault: &FileFault) -> Note
 {
     match fault {
         FileFault::NotJson => Note::of(role_word(role)).word(" not json"),
-        FileFault::Shape(key) => Note::of(role_word(role)).word(" shape ").word(key_word(key)),
-        FileFault::Range(key) => Note::of(role_word(role)).word(" range ").word(key_word(key)),
+        FileFault::Shape(key) => Note::of(role_word(role))
+            .word(" shape ")
+            .word(key_word(key)),
+        FileFault::Range(key) => Note::of(role_word(role))
+            .word(" range ")
+            .word(key_word(key)),
         FileFault::Memory => Note::of("no memory"),
     }
 }

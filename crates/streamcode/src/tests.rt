@@ -1,7 +1,9 @@
 //! Whole runs over objects in memory. What is wanted is written out by hand from the format.
-use super::{End, conclude, lose_is_thinning, one_form, one_numeral, run};
+use super::{End, Role, conclude, lose_is_thinning, one_form, one_numeral, run};
+use sc_codefile::{FileFault, Key};
 use sc_outside::{MemoryCabinet, MemoryPort, MemorySink};
 use sc_rtpdump::{Dropped, DumpFault};
+use sc_slots::Protected;
 use std::alloc::{AllocError, Global};
 use std::test::Fail;
 
@@ -44,12 +46,23 @@ fn no_files(alloc: Global) -> MemoryCabinet {
     MemoryCabinet::new(Vec::new(alloc), Vec::new(alloc))
 }
 
-/// What a run answered, gave and told.
+/// A cabinet with one file.
+fn one_file(alloc: Global, name: &str, text: &[u8]) -> Result<MemoryCabinet, AllocError> {
+    let mut files = Vec::new(alloc);
+    files.push((
+        String::from_str(alloc, name)?,
+        Vec::from_slice(alloc, text)?,
+    ))?;
+    Ok(MemoryCabinet::new(files, Vec::new(alloc)))
+}
+
+/// What a run answered, gave and told, and how many of its reads and writes succeeded.
 #[derive(Drop)]
 struct Answer {
     status: u8,
     given: Vec<u8>,
     note: Vec<u8>,
+    moves: usize,
 }
 
 /// Runs the words of a line over an input in pieces of 7 bytes, with room for so many bytes, where call `fail` of the
@@ -61,17 +74,30 @@ fn answer_of(
     room: usize,
     fail: u32,
 ) -> Result<Answer, Fail> {
+    let mut cabinet = no_files(alloc);
+    answer_by(alloc, line, &mut cabinet, input, room, fail)
+}
+
+/// The same, with files.
+fn answer_by(
+    alloc: Global,
+    line: &str,
+    cabinet: &mut MemoryCabinet,
+    input: &[&[u8]],
+    room: usize,
+    fail: u32,
+) -> Result<Answer, Fail> {
     let words = words_of(alloc, line)?;
     let input = joined(alloc, input)?;
     let fails = vec![in alloc; fail]?;
     let mut port = MemoryPort::new(alloc, input, room, 1000, 7, fails)?;
     let mut notes = MemorySink::new(alloc, 128, Vec::new(alloc))?;
-    let mut cabinet = no_files(alloc);
-    let status = run(alloc, &words, &mut cabinet, &mut port, &mut notes);
+    let status = run(alloc, &words, cabinet, &mut port, &mut notes);
     Ok(Answer {
         status,
         given: joined(alloc, &[port.given()])?,
         note: joined(alloc, &[notes.given()])?,
+        moves: port.journal().len(),
     })
 }
 
@@ -153,8 +179,39 @@ fn every_end_has_its_note(rt: HostRuntime) -> Result<(), Fail> {
         records: 4_000_000,
         lost: 0,
     };
+    let protected = Protected {
+        slots: 4_000_000,
+        rtcp: 4_294_967_295,
+        cut: 0,
+        strange: 17,
+    };
     for (end, status, note) in [
         (End::Thinned(done), 0, "records 4000000 lost 0\n"),
+        (
+            End::Protected(protected),
+            0,
+            "slots 4000000 rtcp 4294967295 cut 0 strange 17\n",
+        ),
+        (
+            End::FileRefused(Role::Code, FileFault::NotJson),
+            3,
+            "code not json\n",
+        ),
+        (
+            End::FileRefused(Role::Code, FileFault::Shape(Key::Whole)),
+            3,
+            "code shape whole\n",
+        ),
+        (
+            End::FileRefused(Role::Code, FileFault::Range(Key::Channel)),
+            3,
+            "code range channel\n",
+        ),
+        (End::FileTooLong(Role::Code), 4, "code limit 4194305\n"),
+        (End::PacketTooWide(94_616), 4, "limit packet 94616\n"),
+        (End::PacketTooLong(7, 1473), 4, "limit size 7 1473\n"),
+        (End::TooManyRecords, 4, "limit records 8000001\n"),
+        (End::TooManySlots, 4, "limit slots 4000001\n"),
         (End::Generated(0), 0, "records 0\n"),
         (End::Generated(3_999_960), 0, "records 3999960\n"),
         (End::LossRefused(17), 1, "loss refused at window 17\n"),
@@ -312,6 +369,197 @@ fn generates_many_records(rt: HostRuntime) -> Result<(), Fail> {
         assert!(rt; port.given().starts_with(PREAMBLE));
         assert_eq!(rt; port.given().ends_with(last), status == 0);
         assert_eq!(rt; notes.given(), note.as_bytes());
+    }
+    Ok(())
+}
+
+// The code whose parity is the block two slots before, for windows of 3 slots, spans of 2, one loss anywhere and the deadline 2.
+const CODE: &[u8] = b"{\"channel\":[3,2,1,2],\"k\":1,\"lags\":[[[0]],[[0]],[[1]]],\"r\":1}";
+
+// A packet of 12 bytes in its record, and its frame. In pieces of 7 bytes, 20 calls read the preamble and 7 write it.
+const PACKET: &[u8] =
+    b"\x00\x14\x00\x0c\x00\x00\x00\x14\x80\x00\x00\x01\x00\x00\x00\xa0\x12\x34\x56\x78";
+
+const FRAME: &[u8] = b"\x00\x0c\x00\x00\x00\x14\x80\x00\x00\x01\x00\x00\x00\xa0\x12\x34\x56\x78";
+
+const ZEROS: &[u8] = &[0; 18];
+
+// The record of a slot without its block and parity: where there is no packet, and where this one is the last.
+const EMPTY_0: &[u8] =
+    b"\x00\x44\x00\x3c\x00\x00\x00\x00\x80\x60\x00\x00\x00\x00\x00\x00SCD1SC\x01\x01\x01\x01\x00\x12\x00\x00\x00\x00";
+
+const EMPTY_1: &[u8] =
+    b"\x00\x44\x00\x3c\x00\x00\x00\x00\x80\x60\x00\x01\x00\x00\x00\x00SCD1SC\x01\x01\x01\x02\x00\x12\x00\x00\x00\x01";
+
+const SLOT_0: &[u8] =
+    b"\x00\x44\x00\x3c\x00\x00\x00\x14\x80\x60\x00\x00\x00\x00\x00\xa0SCD1SC\x01\x01\x01\x00\x00\x12\x00\x00\x00\x00";
+
+const SLOT_1: &[u8] =
+    b"\x00\x44\x00\x3c\x00\x00\x00\x14\x80\x60\x00\x01\x00\x00\x00\xa0SCD1SC\x01\x01\x01\x01\x00\x12\x00\x00\x00\x01";
+
+const SLOT_2: &[u8] =
+    b"\x00\x44\x00\x3c\x00\x00\x00\x14\x80\x60\x00\x02\x00\x00\x00\xa0SCD1SC\x01\x01\x01\x02\x00\x12\x00\x00\x00\x02";
+
+// A record of RTCP, one that is cut, and one whose packet has version 1.
+const OTHERS: &[u8] = b"\x00\x0c\x00\x00\x00\x00\x00\x00\x80\xc9\x00\x00\
+    \x00\x14\x00\x14\x00\x00\x00\x00\x80\x00\x00\x01\x00\x00\x00\xa0\x12\x34\x56\x78\
+    \x00\x14\x00\x0c\x00\x00\x00\x00\x40\x00\x00\x01\x00\x00\x00\xa0\x12\x34\x56\x78";
+
+const LONGER: &[u8] =
+    b"\x00\x15\x00\x0d\x00\x00\x00\x14\x80\x00\x00\x01\x00\x00\x00\xa0\x12\x34\x56\x78\xff";
+
+#[test]
+fn protect_protects_and_refuses(rt: HostRuntime) -> Result<(), Fail> {
+    let empty: &[&[u8]] = &[PREAMBLE];
+    let one: &[&[u8]] = &[PREAMBLE, PACKET];
+    let mixed: &[&[u8]] = &[PREAMBLE, OTHERS, PACKET];
+    let longer: &[&[u8]] = &[PREAMBLE, LONGER];
+    let behind: &[&[u8]] = &[PREAMBLE, OTHERS, PACKET, LONGER];
+    let cut: &[&[u8]] = &[PREAMBLE, PACKET, HEAD];
+    let bare: &[&[u8]] = &[SHORT];
+    let nothing: &[&[u8]] = &[];
+    let flushed: &[&[u8]] = &[PREAMBLE, EMPTY_0, ZEROS, ZEROS, EMPTY_1, ZEROS, ZEROS];
+    let source: &[&[u8]] = &[PREAMBLE, SLOT_0, FRAME, ZEROS];
+    let all: &[&[u8]] = &[
+        PREAMBLE, SLOT_0, FRAME, ZEROS, SLOT_1, ZEROS, ZEROS, SLOT_2, ZEROS, FRAME,
+    ];
+    for (input, status, given, note) in [
+        (empty, 0, flushed, "slots 2 rtcp 0 cut 0 strange 0\n"),
+        (one, 0, all, "slots 3 rtcp 0 cut 0 strange 0\n"),
+        (mixed, 0, all, "slots 3 rtcp 1 cut 1 strange 1\n"),
+        (longer, 4, empty, "limit size 0 13\n"),
+        (behind, 4, source, "limit size 4 13\n"),
+        (cut, 3, source, "record 1 cut\n"),
+        (bare, 3, nothing, "preamble\n"),
+    ] {
+        let mut cabinet = one_file(rt.alloc(), "code.json", CODE)?;
+        let answer = answer_by(
+            rt.alloc(),
+            "protect code.json 12",
+            &mut cabinet,
+            input,
+            1000,
+            1000,
+        )?;
+        let given = joined(rt.alloc(), given)?;
+        assert_eq!(rt; answer.status, status, "{note}");
+        assert_eq!(rt; answer.given.as_slice(), given.as_slice(), "{note}");
+        assert_eq!(rt; answer.note.as_slice(), note.as_bytes());
+    }
+    Ok(())
+}
+
+// What the words and the file decide: nothing is read or given.
+#[test]
+fn protect_judges_its_file(rt: HostRuntime) -> Result<(), Fail> {
+    let input: &[&[u8]] = &[PREAMBLE, PACKET];
+    let long = vec![in rt.alloc(); b' '; 4_194_305]?;
+    let mut wide = joined(
+        rt.alloc(),
+        &[b"{\"channel\":[2,1,1,1],\"k\":1,\"lags\":[[[0"],
+    )?;
+    for _ in 1..63 {
+        wide.extend_from_slice(b",0")?;
+    }
+    wide.extend_from_slice(b"]]],\"r\":63}")?;
+    for (line, text, status, note) in [
+        ("protect code.json 1473", CODE, 2, "usage\n"),
+        ("protect code.json 11", CODE, 2, "usage\n"),
+        ("protect other.json 12", CODE, 7, "read fault\n"),
+        ("protect code.json 12", b"{", 3, "code not json\n"),
+        (
+            "protect code.json 12",
+            b"{\"k\":1}",
+            3,
+            "code shape channel\n",
+        ),
+        ("protect code.json 12", b"[]", 3, "code shape whole\n"),
+        ("protect code.json 12", &long[1..], 3, "code not json\n"),
+        ("protect code.json 12", &long, 4, "code limit 4194305\n"),
+        ("protect code.json 1472", &wide, 4, "limit packet 94616\n"),
+    ] {
+        let mut cabinet = one_file(rt.alloc(), "code.json", text)?;
+        let answer = answer_by(rt.alloc(), line, &mut cabinet, input, 1000, 1000)?;
+        assert_eq!(rt; answer.status, status, "{line} {note}");
+        assert_eq!(rt; answer.note.as_slice(), note.as_bytes());
+        assert_eq!(rt; answer.moves, 0, "{line} {note}");
+        assert!(rt; answer.given.is_empty(), "{line} {note}");
+    }
+    Ok(())
+}
+
+#[test]
+fn faults_of_protect_are_told(rt: HostRuntime) -> Result<(), Fail> {
+    let input: &[&[u8]] = &[PREAMBLE, PACKET];
+    let whole = joined(
+        rt.alloc(),
+        &[
+            PREAMBLE, SLOT_0, FRAME, ZEROS, SLOT_1, ZEROS, ZEROS, SLOT_2, ZEROS, FRAME,
+        ],
+    )?;
+    // 27 calls copy the preamble, 4 read the packet, and one finds the end; the slots are written last.
+    for (room, fail, status, given) in [
+        (1000, 0, 7, 0),
+        (1000, 20, 8, 0),
+        (1000, 26, 8, 42),
+        (1000, 27, 7, 44),
+        (1000, 30, 7, 44),
+        (44 + 100, 1000, 8, 144),
+        (0, 1000, 8, 0),
+    ] {
+        let mut cabinet = one_file(rt.alloc(), "c", CODE)?;
+        let answer = answer_by(rt.alloc(), "protect c 12", &mut cabinet, input, room, fail)?;
+        assert_eq!(rt; answer.status, status, "{room} {fail}");
+        assert!(rt; whole.as_slice().starts_with(answer.given.as_slice()));
+        assert_eq!(rt; answer.given.len(), given, "{room} {fail}");
+    }
+    let fails = Vec::from_slice(rt.alloc(), &[0])?;
+    let mut failing = MemoryCabinet::new(Vec::new(rt.alloc()), fails);
+    let answer = answer_by(rt.alloc(), "protect c 12", &mut failing, input, 1000, 1000)?;
+    assert_eq!(rt; answer.status, 7);
+    assert_eq!(rt; answer.moves, 0);
+    Ok(())
+}
+
+// Each packet comes in a slot, and its frame again two slots later.
+#[test]
+fn protects_what_it_generates(rt: HostRuntime) -> Result<(), Fail> {
+    let words = words_of(rt.alloc(), "gen 5 3000 30")?;
+    let mut cabinet = one_file(rt.alloc(), "c", CODE)?;
+    let mut notes = MemorySink::new(rt.alloc(), 128, Vec::new(rt.alloc()))?;
+    let none = Vec::new(rt.alloc());
+    let mut made = MemoryPort::new(
+        rt.alloc(),
+        Vec::new(rt.alloc()),
+        200_000,
+        1000,
+        65_536,
+        none,
+    )?;
+    assert_eq!(rt;
+        run(rt.alloc(), &words, &mut cabinet, &mut made, &mut notes),
+        0
+    );
+    let words = words_of(rt.alloc(), "protect c 30")?;
+    let input = joined(rt.alloc(), &[made.given()])?;
+    let none = Vec::new(rt.alloc());
+    let mut port = MemoryPort::new(rt.alloc(), input, 400_000, 10_000, 65_536, none)?;
+    assert_eq!(rt;
+        run(rt.alloc(), &words, &mut cabinet, &mut port, &mut notes),
+        0
+    );
+    let given = port.given();
+    assert_eq!(rt; given.len(), 44 + 3002 * 104);
+    for slot in 0..3000 {
+        let at = 44 + 104 * slot;
+        assert!(rt;
+            given[at + 34..at + 68] == made.given()[44 + 38 * slot + 4..44 + 38 * slot + 38],
+            "{slot}"
+        );
+        assert!(rt;
+            given[at + 32..at + 68] == given[at + 276..at + 312],
+            "{slot}"
+        );
     }
     Ok(())
 }

@@ -279,6 +279,32 @@ mod tests {
     }
 
     #[test]
+    fn reads_the_forms_of_protect(rt: HostRuntime) -> Result<(), Fail> {
+        for (line, want) in [
+            ("protect code.json 12", Some(("code.json", 12))),
+            ("protect  1472", Some(("", 1472))),
+            ("protect 12 13", Some(("12", 13))),
+            ("protect code.json 11", None),
+            ("protect code.json 1473", None),
+            ("protect code.json 012", None),
+            ("protect code.json", None),
+            ("protect code.json 12 12", None),
+            ("Protect code.json 12", None),
+        ] {
+            let words = words_of(rt.alloc(), line)?;
+            let right = match read_words(&words) {
+                Some(command) => match command {
+                    Command::Protect { code, size } => want == Some((code, size)),
+                    _ => false,
+                },
+                None => want.is_none(),
+            };
+            assert!(rt; right, "at {line}");
+        }
+        Ok(())
+    }
+
+    #[test]
     fn reads_numbers(rt: HostRuntime) {
         for (word, most, want) in [
             ("0", 0, Some(0)),
