@@ -191,19 +191,19 @@ with tempfile.TemporaryDirectory() as folder:
         ("protect an empty capture", repeats, 12, start),
         ("protect few", repeats, 12, generated(3, 1, 12) + record(b"\x80") + record(b"") + struct.pack(">HHI", 10, 3, 0) + b"ab"),
     ]:
-        given, note = protected(data, json.load(open(name)), size)
-        answers(what, ["protect", name, str(size)], held(data), 0, given, note)
-    given, note = protected(generated(3, 2, 12), json.load(open(repeats)), 12)
+        given, told = protected(data, json.load(open(name)), size)
+        answers(what, ["protect", name, str(size)], held(data), 0, given, told)
+    given, _ = protected(generated(3, 2, 12), json.load(open(repeats)), 12)
     longer = generated(3, 2, 12) + generated(3, 1, 13)[44:]
     answers("a packet over the size", ["protect", repeats, "12"], held(longer), 4, given[: -2 * 68], b"limit size 2 13\n")
     wide = named("wide.json", json.dumps({"channel": [2, 1, 1, 1], "k": 1, "lags": [[[1] * 63]], "r": 63}))
     answers("a packet that no record holds", ["protect", wide, "1472"], held(capture), 4, b"", b"limit packet 94616\n")
-    for what, text, note in [
+    for what, text, told in [
         ("no JSON", "{", b"code not json\n"),
         ("no keys", '{"k":1}', b"code shape channel\n"),
         ("too large", '{"channel":[3,2,1,2],"k":1,"lags":[[[256]]],"r":1}', b"code range lags\n"),
     ]:
-        answers(what, ["protect", named("other.json", text), "12"], held(capture), 3, b"", note)
+        answers(what, ["protect", named("other.json", text), "12"], held(capture), 3, b"", told)
     answers("a long file", ["protect", named("long.json", " " * 4194305), "12"], held(capture), 4, b"", b"code limit 4194305\n")
     answers("no file", ["protect", os.path.join(folder, "none.json"), "12"], held(capture), 7, b"", b"read fault\n")
     for line in ["protect x", "protect x 11", "protect x 1473", "protect x 012", "protect x 12 12"]:

@@ -55,12 +55,13 @@ static void put32(uint8_t *p, uint32_t v) { put16(p, v >> 16), put16(p + 2, v & 
 
 static void parity(uint8_t *to, const Term *t, int n) {
     const __m128i nibble = _mm_set1_epi8(15);
+    const uint8_t *from[64 * 65];
+    for (int s = 0; s < n; s++) from[s] = ring + ((number + lags - t[s].lag) % lags) * stride + (size_t)t[s].i * m;
     for (int c = 0; c < m; c += 16) {
         int place = c + 16 <= m ? c : (m >= 16 ? m - 16 : 0);
         __m128i sum = _mm_setzero_si128();
         for (int s = 0; s < n; s++) {
-            const uint8_t *from = ring + ((number + lags - t[s].lag) % lags) * stride + (size_t)t[s].i * m + place;
-            __m128i x = _mm_loadu_si128((const __m128i *)from);
+            __m128i x = _mm_loadu_si128((const __m128i *)(from[s] + place));
             __m128i low = _mm_shuffle_epi8(_mm_loadu_si128((const __m128i *)t[s].low), _mm_and_si128(x, nibble));
             __m128i high = _mm_shuffle_epi8(_mm_loadu_si128((const __m128i *)t[s].high), _mm_and_si128(_mm_srli_epi16(x, 4), nibble));
             sum = _mm_xor_si128(sum, _mm_xor_si128(low, high));

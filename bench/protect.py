@@ -8,7 +8,6 @@ greatest resident memory, and ours over C by the best and by the median. Both ou
 import json
 import os
 import random
-import resource
 import statistics
 import subprocess
 import sys
@@ -45,12 +44,24 @@ burst = interleaved([[int(i == j) if i < 10 else inverse[i ^ j] for j in range(1
 
 
 def timed(words, stdin, out):
-    before, start = resource.getrusage(resource.RUSAGE_CHILDREN), time.monotonic()
+    start = time.monotonic()
     process = subprocess.Popen(words, stdin=open(stdin, "rb"), stdout=out, stderr=subprocess.DEVNULL)
     _, status, used = os.wait4(process.pid, 0)
     process.returncode = status
     assert status == 0, words
-    return used.ru_utime + used.ru_stime, time.monotonic() - start, used.ru_maxrss
+    return used.ru_utime + used.ru_stime, time.monotonic() - start
+
+
+def memory(words, stdin):
+    """The greatest resident memory in kB, once all of an input was taken that doesn't end."""
+    process = subprocess.Popen(words, stdin=subprocess.PIPE, stdout=subprocess.DEVNULL, stderr=subprocess.DEVNULL)
+    process.stdin.write(open(stdin, "rb").read())
+    process.stdin.flush()
+    time.sleep(0.3)
+    peak = next(line.split()[1] for line in open(f"/proc/{process.pid}/status") if line.startswith("VmHWM"))
+    process.stdin.close()
+    process.wait()
+    return peak
 
 
 with tempfile.TemporaryDirectory() as folder:
@@ -77,5 +88,5 @@ with tempfile.TemporaryDirectory() as folder:
             middle = {who: statistics.median(x[0] for x in rows) for who, rows in seen.items()}
             for who, rows in seen.items():
                 wall = min(x[1] for x in rows)
-                print(f"{name} {count} x {size} {who}: best {best[who]:.3f} s, median {middle[who]:.3f} s, wall {wall:.3f} s, {max(x[2] for x in rows)} kB")
+                print(f"{name} {count} x {size} {who}: best {best[who]:.3f} s, median {middle[who]:.3f} s, wall {wall:.3f} s, {memory(jobs[who], capture)} kB")
             print(f"ratio {name} {size}: best {best['ours'] / best['C']:.2f}, median {middle['ours'] / middle['C']:.2f}, {'same bytes' if same else 'OTHER BYTES'}")
