@@ -135,8 +135,27 @@ impl<F: Field> Equation<F> {
         self.end = zeros_behind(self.numbers.as_slice(), self.from);
     }
 
-    // Adds `c` times `other`.
+    // Adds `c` times `other`. Where `c` is zero nothing is done, and no further column is touched.
     pub(crate) fn add_multiple(&mut self, c: F, other: &Equation<F>, tables: &mut Tables<F>)
+        requires coeffs { length self.old.coeffs ≡ length other.now.coeffs }
+        requires right { length self.old.right ≡ length other.now.right }
+        ensures { self.new ≡ plus_row F.add F.mul xor_bytes (act_bytes F.act) self.old c other.now }
+    {
+        c.known();
+        if adds_nothing(
+            c,
+            self.numbers.as_slice(),
+            other.numbers.as_slice(),
+            self.right.as_slice(),
+            other.right.as_slice(),
+        ) {
+            return;
+        }
+        self.add_scaled(c, other, tables);
+    }
+
+    // The same, whatever `c` is.
+    fn add_scaled(&mut self, c: F, other: &Equation<F>, tables: &mut Tables<F>)
         requires coeffs { length self.old.coeffs ≡ length other.now.coeffs }
         requires right { length self.old.right ≡ length other.now.right }
         ensures { self.new ≡ plus_row F.add F.mul xor_bytes (act_bytes F.act) self.old c other.now }
@@ -248,6 +267,18 @@ fn add_both<F: Field>(
             tables.keep(by);
         }
     }
+}
+
+// Whether `c` is zero. Then adding it so many times changes neither of two pairs of bytes.
+#[inline(always)]
+fn adds_nothing<F: Field>(c: F, first: &[u8], one: &[u8], second: &[u8], other: &[u8]) -> bool
+    requires first { length one.now ≡ length first.now }
+    requires second { length other.now ≡ length second.now }
+    ensures first { result ≡ true → first.now ≡ scaled_sum (F.act c) first.now one.now }
+    ensures second { result ≡ true → second.now ≡ scaled_sum (F.act c) second.now other.now }
+{
+    c.known();
+    c == F::zero()
 }
 
 // The same, by a multiplier.
