@@ -1,8 +1,7 @@
 -- The protected capture is a capture of well shaped slots.
-use Rattle.std.proofs.Common.{◌≡◌, ◌≢◌, ◌⊎◌, inl, inr, ℕ, zero, suc, ◌+◌, ◌-◌, ◌*◌, ◌^◌, ◌<◌, ◌≤◌, Bool, true, false, cond, min, nat_le, nat_lt, Option, Some, None, List, [], ◌∷◌, ◌++◌, length, take, map, filter, replicate, get_or, slice_index, refl, sym, ap, ◌∙◌, subst, arith, length-append, append_assoc}
+use Rattle.std.proofs.Common.{◌≡◌, ◌≢◌, inl, inr, ℕ, zero, suc, ◌+◌, ◌-◌, ◌*◌, ◌^◌, ◌<◌, ◌≤◌, Bool, true, false, cond, min, nat_le, nat_lt, Option, Some, None, List, [], ◌∷◌, ◌++◌, length, take, map, replicate, get_or, refl, sym, ap, ◌∙◌, subst, arith, length-append}
 use Rattle.std.specs.List.{AllByRecursion, flat_map, concat, range_with_len}
 use Rattle.std.proofs.lemmas.Bool.{cases_lt, ltb-false}
-use Rattle.std.proofs.lemmas.Bool.Decides.{nat_tests}
 use Rattle.std.proofs.lemmas.List.{length-map, length-replicate, get_or-append_right, get_or-replicate, get_or_past}
 use Rattle.std.proofs.lemmas.List.FromFn.{length-map-range_with_len}
 use Rattle.std.proofs.lemmas.List.Sums.{length-filter, count_by-le-length}
@@ -12,11 +11,10 @@ use Rattle.sc_rtpdump.specs.Capture.{IsCapture, AreBytes, records_bytes}
 use Rattle.sc_rtpdump.specs.Kind.{kind}
 use Rattle.sc_rtpdump.specs.Record.{Record, IsRecord, empty_record, record_bytes, head_bytes}
 use Rattle.sc_field.specs.Gf256.{gf256_product}
-use Rattle.sc_matrix.specs.Layout.{cut}
 use Rattle.sc_code.specs.Parity.{parity}
 use Rattle.sc_slots.specs.declared.protect.ProtectFault.{ProtectFault}
 use Rattle.sc_slots.specs.Frame.{IsBlank}
-use Rattle.sc_slots.specs.Slot.{Slot, IsSlot, FitsSlot, FitsPacket, slot_packet, slot_record}
+use Rattle.sc_slots.specs.Slot.{IsSlot, slot_packet, slot_record}
 use Rattle.sc_slots.specs.Protected.{Protection, has_kind, rtp_part, blocks, stream, source_of, timestamp_of, slot_at, slot_text, slots_text, refusal_at, at_index, or_else, first_below, first_refused, protected}
 use Rattle.sc_slots.specs.ProtectedLaws.{IsProtectable, slot_records}
 use Rattle.sc_slots.proofs.BlankLaws.{blank-replicate}
