@@ -80,9 +80,6 @@ frame-tail block offset packet f =
 
 -- ---- what isn't a frame
 
-pub no_frame-short : (block : List ℕ) (offset : ℕ) (packet : List ℕ) → length block ≤ 6 → IsFrame block offset packet → ⊥
-no_frame-short block offset packet short f = omega (arith, short, f.some, f.room)
-
 pub no_frame-empty : (block : List ℕ) (n offset : ℕ) (packet : List ℕ) → n ≡ length_in block → n ≡ 0 → IsFrame block offset packet → ⊥
 no_frame-empty block n offset packet is none f = omega (arith, is, none, f.some, frame-length block offset packet f)
 
