@@ -1,4 +1,4 @@
-use Rattle.std.proofs.Common.{◌≡◌, true, get_or, sym, ap, ◌∙◌}
+use Rattle.std.proofs.Common.{◌≡◌, get_or, sym, ap, ◌∙◌}
 use Rattle.sc_field.proofs.ScaledSum.{scaled_sum-none}
 use Rattle.sc_echelon.proofs.equation.adds_nothing.Goals as goal
 
