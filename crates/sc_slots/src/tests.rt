@@ -91,6 +91,13 @@ fn unframes(rt: HostRuntime) {
     }
 }
 
+#[test]
+fn tells_a_bad_block(rt: HostRuntime) -> Result<(), Fail> {
+    let text = format!(in rt.alloc(); "{BadBlock}")?;
+    assert_eq!(rt; text.as_str(), "bad block");
+    Ok(())
+}
+
 // The record that is read of these bytes.
 fn record_of(alloc: Global, bytes: &[u8]) -> Result<DumpRecord, NoMemory> {
     let mut input = Vec::new(alloc);
