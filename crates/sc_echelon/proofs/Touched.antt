@@ -154,7 +154,7 @@ module _ (c from end : ℕ) (xs : List ℕ) (touched : IsTouched from end xs) (r
       let w = touched.within in
       ap (λ (ys : List ℕ). get_or ys j 0) (rotate_front c xs 0 (omega arith) (λ i l. touched.before i (omega arith))) ∙ get_shifted c j xs (omega arith)
 
-  pub rotate-touched : put_mid (from - c) (end - (from - c)) xs (rotate c (take (end - (from - c)) (drop (from - c) xs))) ≡ rotate c xs
+  rotate-touched : put_mid (from - c) (end - (from - c)) xs (rotate c (take (end - (from - c)) (drop (from - c) xs))) ≡ rotate c xs
   rotate-touched =
       let o = touched.order in
       let w = touched.within in
@@ -192,6 +192,17 @@ module _ (c from end : ℕ) (xs : List ℕ) (touched : IsTouched from end xs) (r
         before = λ j l. get_or-turned j ∙ touched.before (c + j) (omega arith);
         after = λ j l. get_or-turned j ∙ touched.after (c + j) (omega arith);
       }
+
+  -- the same, where the part is moved to its front, with zeros behind it
+  pub shifted-touched : put_mid (from - c) (end - (from - c)) xs (drop c (take (end - (from - c)) (drop (from - c) xs)) ++ replicate c 0) ≡ rotate c xs
+  shifted-touched =
+      let o = touched.order in
+      let w = touched.within in
+      let lm = length_mid (from - c) (end - (from - c)) xs (omega arith) in
+      ap (put_mid (from - c) (end - (from - c)) xs)
+      (sym (rotate_front c (take (end - (from - c)) (drop (from - c) xs)) 0 (omega arith)
+      (λ i m. get_mid (from - c) (end - (from - c)) i xs 0 (omega arith) ∙ touched.before (from - c + i) (omega arith))))
+      ∙ rotate-touched
 
 -- nothing is said of a list that is told to be touched from its first to its last place
 pub IsTouched-any : (n : ℕ) (xs : List ℕ) → n ≡ length xs → IsTouched 0 n xs

@@ -1,5 +1,5 @@
 //! One equation: a coefficient for each column, kept as its number, and the bytes on the right side.
-ghost use Rattle.std.specs.Prelude.{◌≡◌, ◌≢◌, ◌<◌, ◌≤◌, ◌++◌, ℕ, IfOk, MatchOption, All, true, false, length, map, take, drop, slice_index, slice_index_or};
+ghost use Rattle.std.specs.Prelude.{◌≡◌, ◌≢◌, ◌<◌, ◌≤◌, ◌++◌, ℕ, IfOk, MatchOption, All, true, false, length, map, take, drop, replicate, slice_index, slice_index_or};
 ghost use Rattle.sc_field.specs.Field.{IsNumber};
 ghost use Rattle.sc_field.specs.Scale.{scaled_sum};
 ghost use Rattle.sc_echelon.specs.Knowledge.{zero_bytes, xor_bytes, act_bytes};
@@ -317,7 +317,17 @@ fn move_down(xs: &mut [u8], from: usize, end: usize, count: usize)
     requires room { count ≤ from }
     ensures { xs.new ≡ rotate count xs.old }
 {
-    xs[from - count..end].rotate_left(count);
+    shift_down(&mut xs[from - count..end], count);
+}
+
+// Moves the bytes behind the first `count` to the front, and writes zeros behind them.
+fn shift_down(xs: &mut [u8], count: usize)
+    requires { count ≤ length xs.old }
+    ensures { xs.new ≡ drop count xs.old ++ replicate count 0 }
+{
+    let kept = xs.len() - count;
+    xs.copy_within(count.., 0);
+    xs[kept..].fill(0);
 }
 
 // The first place with a byte other than 0.
