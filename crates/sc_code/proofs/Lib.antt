@@ -14,6 +14,7 @@
 --   ClassLaws      Meets-iff_classes: where the window is longer than the deadline, the classes are enough
 --   ElementLaws    streams of elements in place of bytes: what decides bytes decides elements, and both where the elements
 --                  are the bytes
+--   FirstBytesLaws the first list of bytes that passes a test: where none is found all fail, and one that is found passes
 pub mod SumLaws
 pub mod ParityLaws
 pub mod ColumnLaws
@@ -22,6 +23,7 @@ pub mod LastBlocksLaws
 pub mod MeetsLaws
 pub mod ClassLaws
 pub mod ElementLaws
+pub mod FirstBytesLaws
 pub mod StreamSteps
 pub mod RingSteps
 pub mod SumSteps

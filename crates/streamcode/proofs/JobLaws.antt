@@ -1,9 +1,13 @@
 -- What the jobs of the program's commands keep, and how they end.
-use Rattle.std.proofs.Common.{◌≡◌, ◌⊎◌, inl, inr, ℕ, ◌≤◌, Bool, true, false, cond, nat_lt, Option, None, Some, List, [], length, Result, Ok, Err, refl, sym, ap, subst, arith}
-use Rattle.sc_outside.specs.Ends.{Job, told_as, IsJob, Ends}
+use Rattle.std.proofs.lemmas.Bool.Decides.{nat_tests}
+use Rattle.std.proofs.Common.{◌≡◌, ◌≢◌, ◌⊎◌, inl, inr, ℕ, ◌<◌, ◌≤◌, ◌∙◌, Bool, true, false, cond, nat_lt, Option, None, Some, List, [], length, Result, Ok, Err, refl, sym, ap, subst, arith}
+use Rattle.sc_outside.specs.Ends.{Job, told_as, IsJob, input, write, Ends}
+use Rattle.sc_outside.specs.Whole.{PutsAll, WriteFailed}
 use Rattle.sc_outside.specs.Port.{Told}
-use Rattle.sc_outside.proofs.EndsLaws.{Ends-at_once, Ends-no_memory, Ends-told_as, IsJob-told_as, IsJob-at_once, IsPrefix-nil}
+use Rattle.sc_outside.proofs.EndsLaws.{Ends-at_once, Ends-no_memory, Ends-told_as, IsJob-told_as, IsJob-at_once, IsPrefix-nil, some_left}
 use Rattle.sc_channel.specs.Channel.{ChannelNumbers}
+use Rattle.sc_channel.specs.Classes.{class_count}
+use Rattle.sc_check.specs.Answer.{Refuted, refuted_of}
 use Rattle.sc_channel.specs.Flags.{set_count}
 use Rattle.sc_channel.specs.Loss.{bad_window}
 use Rattle.sc_rtpdump.specs.declared.thin.DropFault.{DropFault}
@@ -24,15 +28,19 @@ use Rattle.sc_slots.proofs.ProtectedLaws.{protecting-IsJob, protecting-decided}
 use Rattle.sc_trial.specs.Generated.{generated}
 use Rattle.streamcode.specs.declared.end.Role.{Role}
 use Rattle.streamcode.specs.declared.end.End.{End}
-use Rattle.streamcode.specs.declared.end.End.TheVariants.{Thinned, Generated, Protected, LossRefused, Usage, Capture, MoreRecords, FewerRecords, FileRefused, FileTooLong, PacketTooWide, PacketTooLong, TooManyRecords, TooManySlots, ReadFault, WriteFault, NoMemory}
+use Rattle.streamcode.specs.declared.end.End.TheVariants.{Thinned, Generated, Protected, Accepted, Refused, LossRefused, Usage, Capture, MoreRecords, FewerRecords, FileRefused, FileTooLong, PacketTooWide, PacketTooLong, TooManyRecords, TooManySlots, TooManyClasses, ReadFault, WriteFault, NoMemory}
 use Rattle.streamcode.specs.End.{status_of, end_of_drop, end_of_protect}
-use Rattle.streamcode.specs.Jobs.{refusal, lose_by, lose_job, gen_job, protect_job, IsSilent}
+use Rattle.streamcode.specs.Jobs.{refusal, giving, lose_by, lose_job, gen_job, protect_job, check_by, check_job, IsSilent}
+use Rattle.streamcode.specs.Verdict.{verdict_end, meets_text, fails_text, verdict_text}
 
 -- ends that the words and the input decide
 abbrev pub IsOfInput : End → Type 0
 IsOfInput (Thinned dropped) = Unit {0}
 IsOfInput (Generated records) = Unit {0}
 IsOfInput (Protected done) = Unit {0}
+IsOfInput Accepted = Unit {0}
+IsOfInput Refused = Unit {0}
+IsOfInput (TooManyClasses count) = Unit {0}
 IsOfInput (LossRefused window) = Unit {0}
 IsOfInput (FileRefused role fault) = Unit {0}
 IsOfInput (FileTooLong role) = Unit {0}
@@ -48,39 +56,38 @@ IsOfInput ReadFault = ⊥
 IsOfInput WriteFault = ⊥
 IsOfInput NoMemory = ⊥
 
--- their status is none of these
+-- their status isn't that of words with no form, nor one of the outside
 pub record IsInside (status : ℕ) : Type 0 where
-  pub low : (status ≡ 0) ⊎ ((status ≡ 1) ⊎ ((status ≡ 3) ⊎ (status ≡ 4)))
+  pub formed : status ≢ 2
+  pub inside : (status < 7) ⊎ (9 < status)
 
 pub of_input_inside : (end : End) → IsOfInput end → IsInside (status_of end)
-of_input_inside (Thinned dropped) h = record { low = inl refl }
-of_input_inside (Generated records) h = record { low = inl refl }
-of_input_inside (Protected done) h = record { low = inl refl }
-of_input_inside (LossRefused window) h = record { low = inr (inl refl) }
-of_input_inside (Capture fault) h = record { low = inr (inr (inl refl)) }
-of_input_inside (MoreRecords flags) h = record { low = inr (inr (inl refl)) }
-of_input_inside (FewerRecords flags records) h = record { low = inr (inr (inl refl)) }
-of_input_inside (FileRefused role fault) h = record { low = inr (inr (inl refl)) }
-of_input_inside (FileTooLong role) h = record { low = inr (inr (inr refl)) }
-of_input_inside (PacketTooWide bytes) h = record { low = inr (inr (inr refl)) }
-of_input_inside (PacketTooLong index len) h = record { low = inr (inr (inr refl)) }
-of_input_inside TooManyRecords h = record { low = inr (inr (inr refl)) }
-of_input_inside TooManySlots h = record { low = inr (inr (inr refl)) }
+of_input_inside (Thinned dropped) h = record { formed = λ e. omega (arith, e); inside = inl (omega arith) }
+of_input_inside (Generated records) h = record { formed = λ e. omega (arith, e); inside = inl (omega arith) }
+of_input_inside (Protected done) h = record { formed = λ e. omega (arith, e); inside = inl (omega arith) }
+of_input_inside Accepted h = record { formed = λ e. omega (arith, e); inside = inl (omega arith) }
+of_input_inside Refused h = record { formed = λ e. omega (arith, e); inside = inl (omega arith) }
+of_input_inside (LossRefused window) h = record { formed = λ e. omega (arith, e); inside = inl (omega arith) }
+of_input_inside (Capture fault) h = record { formed = λ e. omega (arith, e); inside = inl (omega arith) }
+of_input_inside (MoreRecords flags) h = record { formed = λ e. omega (arith, e); inside = inl (omega arith) }
+of_input_inside (FewerRecords flags records) h = record { formed = λ e. omega (arith, e); inside = inl (omega arith) }
+of_input_inside (FileRefused role fault) h = record { formed = λ e. omega (arith, e); inside = inl (omega arith) }
+of_input_inside (FileTooLong role) h = record { formed = λ e. omega (arith, e); inside = inl (omega arith) }
+of_input_inside (PacketTooWide bytes) h = record { formed = λ e. omega (arith, e); inside = inl (omega arith) }
+of_input_inside (PacketTooLong index len) h = record { formed = λ e. omega (arith, e); inside = inl (omega arith) }
+of_input_inside TooManyRecords h = record { formed = λ e. omega (arith, e); inside = inl (omega arith) }
+of_input_inside TooManySlots h = record { formed = λ e. omega (arith, e); inside = inl (omega arith) }
+of_input_inside (TooManyClasses count) h = record { formed = λ e. omega (arith, e); inside = inr (omega arith) }
 of_input_inside Usage h = absurd h
 of_input_inside ReadFault h = absurd h
 of_input_inside WriteFault h = absurd h
 of_input_inside NoMemory h = absurd h
 
-pub not_inside : (a b : ℕ) → IsInside a → a ≡ b → (b ≡ 2) ⊎ (7 ≤ b) → ⊥
-not_inside a b h e out = elim h.low as (λ _. ⊥) [
-  | inl zero ↦ elim out as (λ _. ⊥) [ inl two ↦ omega arith | inr high ↦ omega arith ]
-  | inr more ↦ elim more as (λ _. ⊥) [
-    | inl one ↦ elim out as (λ _. ⊥) [ inl two ↦ omega arith | inr high ↦ omega arith ]
-    | inr late ↦ elim late as (λ _. ⊥) [
-      | inl three ↦ elim out as (λ _. ⊥) [ inl two ↦ omega arith | inr high ↦ omega arith ]
-      | inr four ↦ elim out as (λ _. ⊥) [ inl two ↦ omega arith | inr high ↦ omega arith ]
-    ]
-  ]
+pub not_inside : (a b : ℕ) → IsInside a → a ≡ b → (b ≡ 2) ⊎ ((7 ≤ b) × (b ≤ 9)) → ⊥
+not_inside a b h e (inl two) = h.formed (e ∙ two)
+not_inside a b h e (inr out) = elim h.inside as (λ _. ⊥) [
+  | inl low ↦ omega (arith, e, low, out.0)
+  | inr high ↦ omega (arith, e, high, out.1)
 ]
 
 -- What every job of a run keeps: it grows, and the outside ends it as every run.
@@ -141,16 +148,30 @@ lose_by-is None flags = record {
 pub lose_job-is : (channel : ChannelNumbers) (flags : List Bool) → IsProgramJob (lose_job channel flags)
 lose_job-is channel flags = lose_by-is (bad_window channel flags) flags
 
-pub gen_job-is : (seed count size : ℕ) → IsProgramJob (gen_job seed count size)
-gen_job-is seed count size = record {
+giving-is : (end : End) (text : List ℕ) → IsOfInput end → IsProgramJob (giving end text)
+giving-is end text h = record {
   run = record {
-    is_job = IsJob-at_once _ true [] ReadFault WriteFault NoMemory (IsPrefix-nil (generated seed count size));
+    is_job = IsJob-at_once _ true [] ReadFault WriteFault NoMemory (IsPrefix-nil text);
     read_failed = refl;
     write_failed = refl;
     no_memory = refl;
   };
-  of_input = λ input. tt;
+  of_input = λ input. h;
 }
+
+pub gen_job-is : (seed count size : ℕ) → IsProgramJob (gen_job seed count size)
+gen_job-is seed count size = giving-is (Generated count) (generated seed count size) tt
+
+verdict-is : (file : CodeFile) (refuted : Option Refuted) → IsProgramJob (giving (verdict_end refuted) (verdict_text file refuted))
+verdict-is file None = giving-is Accepted (meets_text file) tt
+verdict-is file (Some refuted) = giving-is Refused (fails_text file.code.k refuted) tt
+
+check_by-is : (many : Bool) (file : CodeFile) → IsProgramJob (check_by many file)
+check_by-is true file = record { run = refusal-is true (TooManyClasses (class_count file.channel)); of_input = λ input. tt }
+check_by-is false file = verdict-is file (refuted_of file.code file.channel)
+
+pub check_job-is : (file : CodeFile) → IsProgramJob (check_job file)
+check_job-is file = check_by-is (nat_lt 1000000 (class_count file.channel)) file
 
 decided_of_input : (result : Result Done ProtectFault) → IsDecidedAnswer result → IsOfInput (end_of_protect result)
 decided_of_input (Ok done) h = tt
@@ -199,6 +220,29 @@ file_refused-is role fault = record { run = refusal-is true (FileRefused role fa
 pub file_too_long-is : (role : Role) → IsProgramJob (refusal true (FileTooLong role))
 file_too_long-is role = record { run = refusal-is true (FileTooLong role); of_input = λ input. tt }
 
+-- ---- how a call ends that gives a text
+pub giving_given : (end : End) (text : List ℕ) (old new : Told) → PutsAll old new text → Ends (giving end text) old new end
+giving_given end text old new h =
+    let there = some_left new.left in
+    record {
+      cause = input;
+      taken = [];
+      put = text;
+      moves = h.puts.moves;
+      unread = λ _. refl;
+      caused = record { rest = there.0; left = there.1; answered = refl; given = refl; ended = λ no. absurd (cc) };
+    }
+
+pub giving_cut : (end : End) (text : List ℕ) (old new : Told) → WriteFailed old new text → Ends (giving end text) old new WriteFault
+giving_cut end text old new h = record {
+  cause = write;
+  taken = [];
+  put = h.put;
+  moves = h.puts.moves;
+  unread = λ _. refl;
+  caused = (refl, h.rose, inl (record { rest = h.rest; parts = h.parts; more = h.short }));
+}
+
 -- ---- how `lose` ends
 lose_by_memory : (window : Option ℕ) (flags : List Bool) (told : Told) → Ends (lose_by window flags) told told NoMemory
 lose_by_memory (Some window) flags told = Ends-no_memory (refusal true (LossRefused window)) told refl
@@ -220,3 +264,41 @@ lose_thinned channel flags old new result e h =
 pub gen_job-gives : (seed count size : ℕ) → IsSilent (gen_job seed count size) → ⊥
 unfolding generated
 gen_job-gives seed count size silent = cc silent.nothing
+
+-- ---- how `check` ends
+check_by_memory : (many : Bool) (file : CodeFile) (told : Told) → Ends (check_by many file) told told NoMemory
+check_by_memory true file told = Ends-no_memory (refusal true (TooManyClasses (class_count file.channel))) told refl
+check_by_memory false file told = Ends-no_memory (giving (verdict_end (refuted_of file.code file.channel)) (verdict_text file (refuted_of file.code file.channel))) told refl
+
+pub check_memory : (file : CodeFile) (told : Told) → Ends (check_job file) told told NoMemory
+check_memory file told = check_by_memory (nat_lt 1000000 (class_count file.channel)) file told
+
+many_is : (n : ℕ) → 1000000 < n → nat_lt 1000000 n ≡ true
+many_is n h = grind (arith, nat_tests, h)
+
+few_is : (n : ℕ) → n ≤ 1000000 → nat_lt 1000000 n ≡ false
+few_is n h = grind (arith, nat_tests, h)
+
+pub check_many : (file : CodeFile) (told : Told) (count : ℕ) → 1000000 < class_count file.channel → count ≡ class_count file.channel → Ends (check_job file) told told (TooManyClasses count)
+check_many file told count h same =
+    subst (λ b. Ends (check_by b file) told told (TooManyClasses count)) (sym (many_is (class_count file.channel) h))
+    (subst (λ n. Ends (refusal true (TooManyClasses (class_count file.channel))) told told (TooManyClasses n)) (sym same)
+    (Ends-at_once (TooManyClasses (class_count file.channel)) ReadFault WriteFault NoMemory true told))
+
+pub check_given : (file : CodeFile) (refuted : Option Refuted) (text : List ℕ) (end given : End) (old new : Told) → class_count file.channel ≤ 1000000 → refuted ≡ refuted_of file.code file.channel
+    → text ≡ verdict_text file refuted → given ≡ verdict_end refuted → Ends (giving given text) old new end → Ends (check_job file) old new end
+check_given file refuted text end given old new few same is what h =
+    subst (λ b. Ends (check_by b file) old new end) (sym (few_is (class_count file.channel) few))
+    (subst (λ r. Ends (giving (verdict_end r) (verdict_text file r)) old new end) same
+    (subst (λ g. Ends (giving g (verdict_text file refuted)) old new end) what
+    (subst (λ l. Ends (giving given l) old new end) is h)))
+
+-- a verdict isn't empty
+verdict_gives : (file : CodeFile) (refuted : Option Refuted) → verdict_text file refuted ≡ [] → ⊥
+verdict_gives file None h = cc h
+verdict_gives file (Some refuted) h = cc h
+
+pub check_gives : (file : CodeFile) → class_count file.channel ≤ 1000000 → IsSilent (check_job file) → ⊥
+check_gives file few silent =
+    let there : IsSilent (check_by false file) = subst (λ b. IsSilent (check_by b file)) (few_is (class_count file.channel) few) silent in
+    verdict_gives file (refuted_of file.code file.channel) there.nothing

@@ -1,8 +1,5 @@
-pub mod Forms
-pub mod Numbers
-pub mod OneForm
-pub mod LossWord
 pub mod JobLaws
 pub mod FileLaws
 pub mod RunLaws
 pub mod LoseLaws
+pub mod VerdictSteps

@@ -14,11 +14,11 @@ use Rattle.streamcode.specs.declared.end.End.{End}
 use Rattle.streamcode.specs.declared.end.End.TheVariants.{FileTooLong, Usage, ReadFault}
 use Rattle.streamcode.specs.End.{status_of}
 use Rattle.streamcode.specs.Files.{by_code, by_bytes}
-use Rattle.streamcode.specs.Jobs.{refusal, protect_job}
+use Rattle.streamcode.specs.Jobs.{refusal, protect_job, check_job}
 use Rattle.streamcode.specs.Plans.{Plan, owes, fetches, most_fetched, due_by, due_of, PlanEnds, IsSilentPlan, LacksOne}
 use Rattle.streamcode.specs.Runs.{command_plan, files_of, IsDueStatus, ReadRose, IsOutsideStatus, IsQuiet}
-use Rattle.streamcode.specs.Words.{Command, lose_word, generate, protect}
-use Rattle.streamcode.proofs.JobLaws.{not_inside, of_input_inside, IsRunJob, IsProgramJob, refusal-is, lose_job-is, gen_job-is, protect_job-is, file_refused-is, file_too_long-is}
+use Rattle.sc_words.specs.Words.{Command, lose_word, generate, protect, check}
+use Rattle.streamcode.proofs.JobLaws.{not_inside, of_input_inside, IsRunJob, IsProgramJob, refusal-is, lose_job-is, gen_job-is, protect_job-is, check_job-is, file_refused-is, file_too_long-is}
 
 -- ---- what the plans of commands keep
 abbrev IsAmong : List ℕ → List (List ℕ) → Type 0
@@ -61,6 +61,7 @@ program_plan : (command : Command) → IsProgramPlan (files_of (Some command)) (
 program_plan (lose_word channel flags) = lose_job-is channel flags
 program_plan (generate seed count size) = gen_job-is seed count size
 program_plan (protect code size) = (inl refl, λ bytes. bytes_plan (code ∷ []) (λ file. owes (protect_job file size)) (λ file. protect_job-is file size) bytes)
+program_plan (check code workers) = (inl refl, λ bytes. bytes_plan (code ∷ []) (λ file. owes (check_job file)) (λ file. check_job-is file) bytes)
 
 is_plan : (command : Option Command) → IsRunPlan (command_plan command)
 is_plan None = refusal-is false Usage
@@ -112,13 +113,13 @@ module _ (job : Job End) (p : IsProgramJob job) (old new : Told) (end : End) whe
   no_usage taken put memory h s = let nine : 9 ≡ 2 = sym (ap status_of (h.0 ∙ p.run.no_memory)) ∙ s in omega (arith, nine)
 
   read_rose : (taken put : List ℕ) (cause : Cause) → IsCaused job old new taken put end cause → status_of end ≡ 7 → Rose old.read_faults new.read_faults
-  read_rose taken put input h s = absurd (not_inside _ _ (of_input_inside _ (p.of_input (taken ++ h.rest))) (ap status_of h.answered ∙ s) (inr (omega arith)))
+  read_rose taken put input h s = absurd (not_inside _ _ (of_input_inside _ (p.of_input (taken ++ h.rest))) (ap status_of h.answered ∙ s) (inr (omega arith, omega arith)))
   read_rose taken put read h s = h.1
   read_rose taken put write h s = let eight : 8 ≡ 7 = sym (ap status_of (h.0 ∙ p.run.write_failed)) ∙ s in absurd (omega (arith, eight))
   read_rose taken put memory h s = let nine : 9 ≡ 7 = sym (ap status_of (h.0 ∙ p.run.no_memory)) ∙ s in absurd (omega (arith, nine))
 
   write_rose : (taken put : List ℕ) (cause : Cause) → IsCaused job old new taken put end cause → status_of end ≡ 8 → Rose old.write_faults new.write_faults
-  write_rose taken put input h s = absurd (not_inside _ _ (of_input_inside _ (p.of_input (taken ++ h.rest))) (ap status_of h.answered ∙ s) (inr (omega arith)))
+  write_rose taken put input h s = absurd (not_inside _ _ (of_input_inside _ (p.of_input (taken ++ h.rest))) (ap status_of h.answered ∙ s) (inr (omega arith, omega arith)))
   write_rose taken put read h s = let seven : 7 ≡ 8 = sym (ap status_of (h.0 ∙ p.run.read_failed)) ∙ s in absurd (omega (arith, seven))
   write_rose taken put write h s = h.1
   write_rose taken put memory h s = let nine : 9 ≡ 8 = sym (ap status_of (h.0 ∙ p.run.no_memory)) ∙ s in absurd (omega (arith, nine))

@@ -17,13 +17,15 @@ use Rattle.sc_slots.specs.declared.protect.Protected.{Protected as Done}
 use Rattle.streamcode.specs.declared.end.Role.{Role}
 use Rattle.streamcode.specs.declared.end.Role.TheVariants.{Code}
 use Rattle.streamcode.specs.declared.end.End.{End}
-use Rattle.streamcode.specs.declared.end.End.TheVariants.{Thinned, Generated, Protected, LossRefused, Usage, Capture, MoreRecords, FewerRecords, FileRefused, FileTooLong, PacketTooWide, PacketTooLong, TooManyRecords, TooManySlots, ReadFault, WriteFault, NoMemory}
+use Rattle.streamcode.specs.declared.end.End.TheVariants.{Thinned, Generated, Protected, Accepted, Refused, LossRefused, Usage, Capture, MoreRecords, FewerRecords, FileRefused, FileTooLong, PacketTooWide, PacketTooLong, TooManyRecords, TooManySlots, TooManyClasses, ReadFault, WriteFault, NoMemory}
 
 -- the status with which the program ends
 abbrev pub status_of : End → ℕ
 status_of (Thinned dropped) = 0
 status_of (Generated records) = 0
 status_of (Protected done) = 0
+status_of Accepted = 0
+status_of Refused = 1
 status_of (LossRefused window) = 1
 status_of Usage = 2
 status_of (Capture fault) = 3
@@ -35,6 +37,7 @@ status_of (PacketTooWide bytes) = 4
 status_of (PacketTooLong index len) = 4
 status_of TooManyRecords = 4
 status_of TooManySlots = 4
+status_of (TooManyClasses count) = 11
 status_of ReadFault = 7
 status_of WriteFault = 8
 status_of NoMemory = 9
@@ -76,6 +79,8 @@ text_of (Thinned dropped) = codes "records " ++ decimal dropped.records ++ codes
 text_of (Generated records) = codes "records " ++ decimal records
 text_of (Protected done) =
     codes "slots " ++ decimal done.slots ++ codes " rtcp " ++ decimal done.rtcp ++ codes " cut " ++ decimal done.cut ++ codes " strange " ++ decimal done.strange
+text_of Accepted = codes "accepted"
+text_of Refused = codes "refused"
 text_of (LossRefused window) = codes "loss refused at window " ++ decimal window
 text_of Usage = codes "usage"
 text_of (Capture fault) = fault_text fault
@@ -87,6 +92,7 @@ text_of (PacketTooWide bytes) = codes "limit packet " ++ decimal bytes
 text_of (PacketTooLong index len) = codes "limit size " ++ decimal index ++ codes " " ++ decimal len
 text_of TooManyRecords = codes "limit records 8000001"
 text_of TooManySlots = codes "limit slots 4000001"
+text_of (TooManyClasses count) = codes "classes " ++ decimal count
 text_of ReadFault = codes "read fault"
 text_of WriteFault = codes "write fault"
 text_of NoMemory = codes "no memory"

@@ -1,20 +1,28 @@
 -- The jobs of the program's commands, over the input and the output.
-use Rattle.std.specs.Prelude.{◌≡◌, ℕ, Bool, true, false, Option, Some, None, List, [], length}
+use Rattle.std.specs.Prelude.{◌≡◌, ℕ, Bool, true, false, Option, Some, None, List, [], length, nat_lt}
 use Rattle.sc_outside.specs.Ends.{Job, only, at_once, told_as}
 use Rattle.sc_channel.specs.Channel.{ChannelNumbers}
+use Rattle.sc_channel.specs.Classes.{class_count}
+use Rattle.sc_check.specs.Answer.{refuted_of}
 use Rattle.sc_channel.specs.Loss.{bad_window}
 use Rattle.sc_rtpdump.specs.Thin.{thinning}
 use Rattle.sc_code.specs.declared.code.CodeFile.{CodeFile}
 use Rattle.sc_slots.specs.Protected.{protecting}
 use Rattle.sc_trial.specs.Generated.{generated}
 use Rattle.streamcode.specs.declared.end.End.{End}
-use Rattle.streamcode.specs.declared.end.End.TheVariants.{Generated, LossRefused, ReadFault, WriteFault, NoMemory}
+use Rattle.streamcode.specs.declared.end.End.TheVariants.{Generated, LossRefused, TooManyClasses, ReadFault, WriteFault, NoMemory}
 use Rattle.streamcode.specs.End.{end_of_drop, end_of_protect}
+use Rattle.streamcode.specs.Verdict.{verdict_end, verdict_text}
 
 -- an end that the words decide alone, or the words and the files: nothing is read and nothing given. It may have taken
 -- memory to decide.
 abbrev pub refusal : Bool → End → Job End
 refusal allocates end = at_once (only end) allocates [] ReadFault WriteFault NoMemory
+
+-- A text that the words and the files decide is given, whatever the input is. Memory runs out before any of it.
+abbrev pub giving : End → List ℕ → Job End
+giving end text =
+    at_once (record { answer = end; text = text; at_end = false }) true [] ReadFault WriteFault NoMemory
 
 -- a loss that isn't admissible is refused; else the capture is thinned
 abbrev pub lose_by : Option ℕ → List Bool → Job End
@@ -24,14 +32,22 @@ lose_by None flags = told_as (end_of_drop (length flags)) (thinning flags)
 abbrev pub lose_job : ChannelNumbers → List Bool → Job End
 lose_job channel flags = lose_by (bad_window channel flags) flags
 
--- the generated capture is given, whatever the input is; memory runs out before any of it
+-- the generated capture is given
 abbrev pub gen_job : ℕ → ℕ → ℕ → Job End
-gen_job seed count size =
-    at_once (record { answer = Generated count; text = generated seed count size; at_end = false }) true [] ReadFault WriteFault NoMemory
+gen_job seed count size = giving (Generated count) (generated seed count size)
 
 -- a capture is protected by a code, for packets of at most this size
 abbrev pub protect_job : CodeFile → ℕ → Job End
 protect_job file size = told_as end_of_protect (protecting file size)
+
+-- Whether a code meets its channel: a channel with too many classes is refused; else the verdict is given.
+abbrev pub check_by : Bool → CodeFile → Job End
+check_by true file = refusal true (TooManyClasses (class_count file.channel))
+check_by false file =
+    giving (verdict_end (refuted_of file.code file.channel)) (verdict_text file (refuted_of file.code file.channel))
+
+abbrev pub check_job : CodeFile → Job End
+check_job file = check_by (nat_lt 1000000 (class_count file.channel)) file
 
 -- a job that neither reads nor gives
 pub record IsSilent (job : Job End) : Type 0 where

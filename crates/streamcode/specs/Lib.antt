@@ -1,7 +1,5 @@
-pub mod Words
-pub mod Command
-pub mod Forms
 pub mod End
+pub mod Verdict
 pub mod Jobs
 pub mod Plans
 pub mod Files

@@ -22,6 +22,10 @@ pub enum End {
     Generated(u32),
     /// The capture was protected.
     Protected(Protected),
+    /// The code meets its channel.
+    Accepted,
+    /// The code doesn't meet its channel.
+    Refused,
     /// The loss isn't admissible: this window of it is the first that isn't fine.
     LossRefused(usize),
     /// The words have no form.
@@ -44,6 +48,8 @@ pub enum End {
     TooManyRecords,
     /// The capture has more RTP records than a protected capture has slots for.
     TooManySlots,
+    /// The channel has so many classes of losses, which are more than a check takes.
+    TooManyClasses(u64),
     /// A read of the input failed, or a file wasn't fetched.
     ReadFault,
     /// A write of the output failed.
@@ -53,19 +59,21 @@ pub enum End {
 }
 
 impl End {
-    /// The status with which the program ends: 0 done, 1 refused by the loss, 2 no form of words, 3 refused by a file or
-    /// the input, 4 beyond a limit, 7 a read or a fetch failed, 8 a write failed, 9 no memory.
+    /// The status with which the program ends: 0 done, 1 a code or a loss was judged and refused, 2 no form of words, 3
+    /// refused by a file or the input, 4 beyond a limit, 7 a read or a fetch failed, 8 a write failed, 9 no memory, 11 too
+    /// many classes.
     pub fn status(&self) -> u8
         ensures { result ≡ status_of self.now }
     {
         match self {
-            End::Thinned(_) | End::Generated(_) | End::Protected(_) => 0,
-            End::LossRefused(_) => 1,
+            End::Thinned(_) | End::Generated(_) | End::Protected(_) | End::Accepted => 0,
+            End::Refused | End::LossRefused(_) => 1,
             End::Usage => 2,
             End::Capture(_) | End::MoreRecords(_) | End::FewerRecords(_, _) => 3,
             End::FileRefused(_, _) => 3,
             End::FileTooLong(_) | End::PacketTooWide(_) | End::PacketTooLong(_, _) => 4,
             End::TooManyRecords | End::TooManySlots => 4,
+            End::TooManyClasses(_) => 11,
             End::ReadFault => 7,
             End::WriteFault => 8,
             End::NoMemory => 9,

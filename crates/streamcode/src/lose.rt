@@ -2,10 +2,10 @@
 ghost use Rattle.std.specs.Prelude.{◌≡◌, true, map};
 ghost use Rattle.sc_outside.specs.Ends.{Ends};
 ghost use Rattle.streamcode.specs.Jobs.{lose_job, IsSilent};
-ghost use Rattle.streamcode.specs.Words.{is_loss_word, is_lost};
+ghost use Rattle.sc_words.specs.Words.{is_loss_word, is_lost};
 
 use crate::end::End;
-use crate::words::read_loss_word;
+use sc_words::read_loss_word;
 use sc_channel::{Channel, first_bad_window};
 use sc_outside::{NoMemory, Port};
 use sc_rtpdump::drop_records;

@@ -2,26 +2,31 @@
 ghost use Rattle.std.specs.Prelude.{◌≡◌, ◌⊎◌, ◌↔◌, ◌≤◌, None, Some, IfSome};
 ghost use Rattle.sc_outside.specs.Ends.{Ends, GivesPrefix};
 ghost use Rattle.sc_outside.specs.Faults.{Rose};
-ghost use Rattle.streamcode.specs.Command.{meaning, HasItsForms};
+ghost use Rattle.sc_words.specs.Command.{meaning, HasItsForms};
 ghost use Rattle.streamcode.specs.Plans.{PlanEnds, due_of, IsSilentPlan, LacksOne};
 ghost use Rattle.streamcode.specs.Runs.{command_plan, files_of, plan_of, RunEnds, IsDueStatus, ReadRose, IsOutsideStatus, IsQuiet};
-ghost use Rattle.streamcode.specs.Words.{command_of, texts};
+ghost use Rattle.sc_words.specs.Words.{command_of, texts};
 
+use crate::check::check;
 use crate::end::End;
 use crate::generate::generate;
 use crate::lose::lose;
 use crate::note::conclude;
 use crate::protect::protect;
-use crate::words::{Command, read_words};
+use sc_check::Gate;
 use sc_outside::{Cabinet, Port, Sink};
+use sc_words::{Command, read_words};
 use std::alloc::Global;
+use std::thread::Threads;
 
 /// Does a command.
-fn perform<C: Cabinet, P: Port>(
+fn perform<R: Threads + Sync, C: Cabinet, P: Port, G: Gate + Sync>(
+    rt: &R,
     alloc: Global,
     command: Command<'_>,
     cabinet: &mut C,
     port: &mut P,
+    gate: &G,
 ) -> End
     requires { HasItsForms command }
     ensures { PlanEnds P.told (command_plan (Some (meaning command.entry))) (C.told cabinet.old) (C.told cabinet.new)
@@ -31,35 +36,40 @@ fn perform<C: Cabinet, P: Port>(
         Command::LoseWord { channel, flags } => lose(alloc, channel, flags, port),
         Command::Gen { seed, count, size } => generate(alloc, seed, count, size, port),
         Command::Protect { code, size } => protect(alloc, code, size, cabinet, port),
+        Command::Check { code, workers } => check(rt, alloc, code, workers, cabinet, port, gate),
     }
 }
 
 /// Does what the words ask for.
-fn answer<C: Cabinet, P: Port>(
+fn answer<R: Threads + Sync, C: Cabinet, P: Port, G: Gate + Sync>(
+    rt: &R,
     alloc: Global,
     words: &Vec<String>,
     cabinet: &mut C,
     port: &mut P,
+    gate: &G,
 ) -> End
     ensures { PlanEnds P.told (plan_of (texts words.now.items)) (C.told cabinet.old) (C.told cabinet.new)
         port.old port.new result }
 {
     match read_words(words) {
-        Some(command) => perform(alloc, command, cabinet, port),
+        Some(command) => perform(rt, alloc, command, cabinet, port, gate),
         None => End::Usage,
     }
 }
 
 /// Does what the words of a command line ask for, tells a note, and answers the status with which the program ends.
 ///
-/// `words` are those after the program's name. Files that they name come from the cabinet. The commands, their statuses
-/// and their notes are listed in docs/COMMANDS.md.
-pub fn run<C: Cabinet, P: Port, N: Sink>(
+/// `words` are those after the program's name. Files that they name come from the cabinet. Threads are started by `rt`, and a
+/// worker enters the gate before it begins. The commands, their statuses and their notes are listed in docs/COMMANDS.md.
+pub fn run<R: Threads + Sync, C: Cabinet, P: Port, N: Sink, G: Gate + Sync>(
+    rt: &R,
     alloc: Global,
     words: &Vec<String>,
     cabinet: &mut C,
     port: &mut P,
     notes: &mut N,
+    gate: &G,
 ) -> u8
     // Every run ends by the one relation: who decided it, over the files that came and the bytes that were taken and put,
     // with its status and its note. All that follows is said by it.
@@ -92,6 +102,6 @@ pub fn run<C: Cabinet, P: Port, N: Sink>(
     ensures write_fault { result ≡ 8 → Rose (P.told port.old).write_faults (P.told port.new).write_faults }
     ensures untouched { IsSilentPlan (plan_of (texts words.now.items)) → port.new ≡ port.old }
 {
-    let end = answer(alloc, words, cabinet, port);
+    let end = answer(rt, alloc, words, cabinet, port, gate);
     conclude(notes, end)
 }

@@ -5,9 +5,9 @@ use Rattle.sc_channel.specs.Loss.{bad_window}
 use Rattle.sc_rtpdump.specs.Thin.{thinning}
 use Rattle.streamcode.specs.End.{end_of_drop}
 use Rattle.streamcode.specs.Jobs.{lose_job}
-use Rattle.streamcode.specs.Words.{is_lost}
+use Rattle.sc_words.specs.Words.{is_lost}
 use Rattle.streamcode.proofs.JobLaws.{lose_memory, lose_refused, lose_thinned}
-use Rattle.streamcode.proofs.LossWord.{loss_word-length}
+use Rattle.sc_words.proofs.LossWord.{loss_word-length}
 use Rattle.streamcode.proofs.lose.lose.Goals as goal
 
 pub returns-in-Err-clause-ends : goal.returns-in-Err-clause-ends

@@ -3,7 +3,7 @@ use Rattle.sc_outside.proofs.EndsLaws.{Ends-at_once}
 use Rattle.streamcode.specs.declared.end.End.TheVariants.{Usage, ReadFault, WriteFault, NoMemory}
 use Rattle.streamcode.specs.Plans.{PlanEnds}
 use Rattle.streamcode.specs.Runs.{command_plan}
-use Rattle.streamcode.specs.Words.{command_of, texts}
+use Rattle.sc_words.specs.Words.{command_of, texts}
 use Rattle.streamcode.proofs.program.answer.Goals as goal
 
 pub returns-in-None : goal.returns-in-None

@@ -1,5 +1,5 @@
 use Rattle.std.proofs.Common.{Some, refl, sym, subst}
-use Rattle.streamcode.specs.Command.{meaning}
+use Rattle.sc_words.specs.Command.{meaning}
 use Rattle.streamcode.specs.Plans.{PlanEnds}
 use Rattle.streamcode.specs.Runs.{command_plan}
 use Rattle.streamcode.proofs.JobLaws.{gen_job-gives}

@@ -1,6 +1,6 @@
 use Rattle.std.proofs.Common.{sym}
 use Rattle.streamcode.specs.Runs.{plan_of}
-use Rattle.streamcode.specs.Words.{command_of, texts}
+use Rattle.sc_words.specs.Words.{command_of, texts}
 use Rattle.streamcode.proofs.RunLaws.{run_decided, run_quiet, run_prefix, run_usage, run_read_fault, run_write_fault, run_untouched}
 use Rattle.streamcode.proofs.program.run.Goals as goal
 

@@ -1,0 +1,259 @@
+-- Words ask for a command exactly where they are its words.
+use Rattle.std.proofs.Common.{◌≡◌, ℕ, ◌≤◌, ◌&&◌, List, [], ◌∷◌, Bool, true, false, Option, Some, None, length, map, codes, cond, nat_le, arith, refl, ap, inl, inr, sym, ◌∙◌, subst}
+use Rattle.std.proofs.lemmas.Bool.Decides.{nat_tests, eqb_tells}
+use Rattle.std.proofs.lemmas.List.{length-map}
+use Rattle.std.proofs.lemmas.Option.{cond_some}
+use Rattle.std.proofs.lemmas.Slice.Eq.{bytes_eq-Decides}
+use Rattle.std.specs.Fmt.{decimal}
+use Rattle.std.specs.List.{list_all}
+use Rattle.std.specs.Str.{bytes_eq}
+use Rattle.sc_channel.specs.Channel.{ChannelNumbers, IsChannel, is_channel}
+use Rattle.sc_channel.proofs.ChannelLaws.{is_channel-to, is_channel-from}
+use Rattle.sc_channel.specs.declared.flags.TheConstants.{MAX_FLAGS}
+use Rattle.sc_words.specs.Words.{Command, lose_word, generate, protect, check, number_to, channel_at, channel_of, is_flag, is_lost, is_loss_word, flags_of, lose_at, lose_of, gen_at, gen_of, protect_at, protect_of, check_at, check_of, command_of}
+use Rattle.sc_words.specs.Forms.{character_of, words_of, IsWithinLimits}
+use Rattle.sc_words.proofs.Forms.{flags_of-word, flags_of-none}
+use Rattle.sc_words.proofs.Numbers.{number_to-to_decimal, number_to-decimal}
+
+-- flags and their characters
+is_lost-characters : (flags : List Bool) → map is_lost (map character_of flags) ≡ flags
+is_lost-characters [] = refl
+is_lost-characters (true ∷ flags) = ap (λ fs. true ∷ fs) (is_lost-characters flags)
+is_lost-characters (false ∷ flags) = ap (λ fs. false ∷ fs) (is_lost-characters flags)
+
+is_flag-characters : (flags : List Bool) → list_all is_flag (map character_of flags) ≡ true
+is_flag-characters [] = refl
+is_flag-characters (true ∷ flags) = is_flag-characters flags
+is_flag-characters (false ∷ flags) = is_flag-characters flags
+
+character : (c : ℕ) → is_flag c ≡ true → c ≡ character_of (is_lost c)
+character c is = elim (eqb_tells c 49) [
+  | inl one ↦ one.1 ∙ sym (ap character_of one.0)
+  | inr other ↦ (let zero : c ≡ 48 = grind (arith, nat_tests) in zero ∙ sym (ap character_of other.0))
+]
+
+both : (a b : Bool) → (a && b) ≡ true → (a ≡ true) × (b ≡ true)
+both true true is = (refl, refl)
+both true false is = absurd (cc)
+both false b is = absurd (cc)
+
+characters : (word : List ℕ) → list_all is_flag word ≡ true → word ≡ map character_of (map is_lost word)
+characters [] all = refl
+characters (c ∷ word) all =
+    let parts = both (is_flag c) (list_all is_flag word) all in
+    let first = character c parts.0 in
+    let rest = characters word parts.1 in
+    cc
+
+flags_of-characters : (flags : List Bool) → length flags ≤ MAX_FLAGS → flags_of (map character_of flags) ≡ Some flags
+unfolding is_loss_word
+flags_of-characters flags short =
+    let fits : nat_le (length (map character_of flags)) MAX_FLAGS ≡ true = grind (arith, nat_tests, length-map flags character_of) in
+    flags_of-word (map character_of flags) (rw (fits, is_flag-characters flags) refl) ∙ ap Some (is_lost-characters flags)
+
+flags_of_parts : (word : List ℕ) (flags : List Bool) (test : Bool) → is_loss_word word ≡ test → flags_of word ≡ Some flags → (word ≡ map character_of flags) × (length flags ≤ MAX_FLAGS)
+unfolding is_loss_word
+flags_of_parts word flags false none is = (let no = flags_of-none word none in absurd (cc))
+flags_of_parts word flags true some is =
+    let value = flags_of-word word some in
+    let same : map is_lost word ≡ flags = cc in
+    let parts = both (nat_le (length word) MAX_FLAGS) (list_all is_flag word) some in
+    let short : length word ≤ MAX_FLAGS = grind (arith, nat_tests, parts.0) in
+    (characters word parts.1 ∙ ap (map character_of) same, omega (arith, ap length same, length-map word is_lost))
+
+flags_of-to : (word : List ℕ) (flags : List Bool) → flags_of word ≡ Some flags → (word ≡ map character_of flags) × (length flags ≤ MAX_FLAGS)
+flags_of-to word flags is = flags_of_parts word flags (is_loss_word word) refl is
+
+-- the parts of a channel's words, and of a command's
+record AreNumbers (w b n t : Option ℕ) (c : ChannelNumbers) : Type 0 where
+  w_is : w ≡ Some c.w
+  b_is : b ≡ Some c.b
+  n_is : n ≡ Some c.n
+  t_is : t ≡ Some c.t
+  channel : is_channel c ≡ true
+
+channel_at-to : (w b n t : Option ℕ) (c : ChannelNumbers) → channel_at w b n t ≡ Some c → AreNumbers w b n t c
+channel_at-to (Some w) (Some b) (Some n) (Some t) c is =
+    let numbers : ChannelNumbers = record { w = w; b = b; n = n; t = t } in
+    let parts = cond_some (is_channel numbers) numbers c is in
+    record {
+      w_is = ap (λ (d : ChannelNumbers). Some d.w) parts.1;
+      b_is = ap (λ (d : ChannelNumbers). Some d.b) parts.1;
+      n_is = ap (λ (d : ChannelNumbers). Some d.n) parts.1;
+      t_is = ap (λ (d : ChannelNumbers). Some d.t) parts.1;
+      channel = subst (λ (d : ChannelNumbers). is_channel d ≡ true) parts.1 parts.0;
+    }
+channel_at-to (Some w) (Some b) (Some n) None c is = absurd (cc)
+channel_at-to (Some w) (Some b) None t c is = absurd (cc)
+channel_at-to (Some w) None n t c is = absurd (cc)
+channel_at-to None b n t c is = absurd (cc)
+
+-- Of each command, its words: where they ask for a command, they are its words, and it is within its limits.
+abbrev AreItsWords : List (List ℕ) → Command → Type 0
+AreItsWords words command = (words ≡ words_of command) × IsWithinLimits command
+
+record LoseParts (o : Option ChannelNumbers) (f : Option (List Bool)) (command : Command) : Type 0 where
+  channel : ChannelNumbers
+  flags : List Bool
+  o_is : o ≡ Some channel
+  f_is : f ≡ Some flags
+  is : lose_word channel flags ≡ command
+
+lose_at-to : (o : Option ChannelNumbers) (f : Option (List Bool)) (command : Command) → lose_at o f ≡ Some command → LoseParts o f command
+lose_at-to (Some c) (Some flags) command is = record { channel = c; flags = flags; o_is = refl; f_is = refl; is = cc }
+lose_at-to (Some c) None command is = absurd (cc)
+lose_at-to None f command is = absurd (cc)
+
+lose_of-to : (words : List (List ℕ)) (command : Command) → lose_of words ≡ Some command → AreItsWords (codes "lose" ∷ words) command
+lose_of-to [] command is = absurd (cc)
+lose_of-to (w ∷ []) command is = absurd (cc)
+lose_of-to (w ∷ b ∷ []) command is = absurd (cc)
+lose_of-to (w ∷ b ∷ n ∷ []) command is = absurd (cc)
+lose_of-to (w ∷ b ∷ n ∷ t ∷ []) command is = absurd (cc)
+lose_of-to (w ∷ b ∷ n ∷ t ∷ loss ∷ []) command is =
+    let parts = lose_at-to (channel_of w b n t) (flags_of loss) command is in
+    let c = parts.channel in
+    let numbers = channel_at-to (number_to 4294967295 w) (number_to 4294967295 b) (number_to 4294967295 n) (number_to 4294967295 t) c parts.o_is in
+    let w_text : w ≡ decimal c.w = (number_to-to_decimal 4294967295 w c.w (omega arith) numbers.w_is).0 in
+    let b_text : b ≡ decimal c.b = (number_to-to_decimal 4294967295 b c.b (omega arith) numbers.b_is).0 in
+    let n_text : n ≡ decimal c.n = (number_to-to_decimal 4294967295 n c.n (omega arith) numbers.n_is).0 in
+    let t_text : t ≡ decimal c.t = (number_to-to_decimal 4294967295 t c.t (omega arith) numbers.t_is).0 in
+    let loss_text = flags_of-to loss parts.flags parts.f_is in
+    let loss_is : loss ≡ map character_of parts.flags = loss_text.0 in
+    subst (AreItsWords (codes "lose" ∷ w ∷ b ∷ n ∷ t ∷ loss ∷ [])) parts.is (cc, (is_channel-to c numbers.channel, loss_text.1))
+lose_of-to (w ∷ b ∷ n ∷ t ∷ loss ∷ more ∷ rest) command is = absurd (cc)
+
+record GenParts (a b c : Option ℕ) (command : Command) : Type 0 where
+  seed : ℕ
+  count : ℕ
+  size : ℕ
+  a_is : a ≡ Some seed
+  b_is : b ≡ Some count
+  c_is : c ≡ Some size
+  least : 12 ≤ size
+  is : generate seed count size ≡ command
+
+gen_at-to : (a b c : Option ℕ) (command : Command) → gen_at a b c ≡ Some command → GenParts a b c command
+gen_at-to (Some a) (Some b) (Some c) command is =
+    let parts = cond_some (nat_le 12 c) (generate a b c) command is in
+    record { seed = a; count = b; size = c; a_is = refl; b_is = refl; c_is = refl; least = grind (arith, nat_tests, parts.0); is = parts.1 }
+gen_at-to (Some a) (Some b) None command is = absurd (cc)
+gen_at-to (Some a) None c command is = absurd (cc)
+gen_at-to None b c command is = absurd (cc)
+
+gen_of-to : (words : List (List ℕ)) (command : Command) → gen_of words ≡ Some command → AreItsWords (codes "gen" ∷ words) command
+gen_of-to [] command is = absurd (cc)
+gen_of-to (a ∷ []) command is = absurd (cc)
+gen_of-to (a ∷ b ∷ []) command is = absurd (cc)
+gen_of-to (a ∷ b ∷ c ∷ []) command is =
+    let parts = gen_at-to (number_to 18446744073709551615 a) (number_to 3999960 b) (number_to 1472 c) command is in
+    let seed_text = number_to-to_decimal 18446744073709551615 a parts.seed (omega arith) parts.a_is in
+    let count_text = number_to-to_decimal 3999960 b parts.count (omega arith) parts.b_is in
+    let size_text = number_to-to_decimal 1472 c parts.size (omega arith) parts.c_is in
+    let a_is : a ≡ decimal parts.seed = seed_text.0 in
+    let b_is : b ≡ decimal parts.count = count_text.0 in
+    let c_is : c ≡ decimal parts.size = size_text.0 in
+    subst (AreItsWords (codes "gen" ∷ a ∷ b ∷ c ∷ [])) parts.is (cc, (seed_text.1, count_text.1, parts.least, size_text.1))
+gen_of-to (a ∷ b ∷ c ∷ more ∷ rest) command is = absurd (cc)
+
+record ProtectParts (code : List ℕ) (a : Option ℕ) (command : Command) : Type 0 where
+  size : ℕ
+  a_is : a ≡ Some size
+  least : 12 ≤ size
+  is : protect code size ≡ command
+
+protect_at-to : (code : List ℕ) (a : Option ℕ) (command : Command) → protect_at code a ≡ Some command → ProtectParts code a command
+protect_at-to code (Some a) command is =
+    let parts = cond_some (nat_le 12 a) (protect code a) command is in
+    record { size = a; a_is = refl; least = grind (arith, nat_tests, parts.0); is = parts.1 }
+protect_at-to code None command is = absurd (cc)
+
+protect_of-to : (words : List (List ℕ)) (command : Command) → protect_of words ≡ Some command → AreItsWords (codes "protect" ∷ words) command
+protect_of-to [] command is = absurd (cc)
+protect_of-to (code ∷ []) command is = absurd (cc)
+protect_of-to (code ∷ a ∷ []) command is =
+    let parts = protect_at-to code (number_to 1472 a) command is in
+    let size_text = number_to-to_decimal 1472 a parts.size (omega arith) parts.a_is in
+    let a_is : a ≡ decimal parts.size = size_text.0 in
+    subst (AreItsWords (codes "protect" ∷ code ∷ a ∷ [])) parts.is (cc, (parts.least, size_text.1))
+protect_of-to (code ∷ a ∷ more ∷ rest) command is = absurd (cc)
+
+record CheckParts (code : List ℕ) (a : Option ℕ) (command : Command) : Type 0 where
+  workers : ℕ
+  a_is : a ≡ Some workers
+  least : 1 ≤ workers
+  is : check code workers ≡ command
+
+check_at-to : (code : List ℕ) (a : Option ℕ) (command : Command) → check_at code a ≡ Some command → CheckParts code a command
+check_at-to code (Some a) command is =
+    let parts = cond_some (nat_le 1 a) (check code a) command is in
+    record { workers = a; a_is = refl; least = grind (arith, nat_tests, parts.0); is = parts.1 }
+check_at-to code None command is = absurd (cc)
+
+check_of-to : (words : List (List ℕ)) (command : Command) → check_of words ≡ Some command → AreItsWords (codes "check" ∷ words) command
+check_of-to [] command is = absurd (cc)
+check_of-to (code ∷ []) command is = absurd (cc)
+check_of-to (code ∷ a ∷ []) command is =
+    let parts = check_at-to code (number_to 64 a) command is in
+    let workers_text = number_to-to_decimal 64 a parts.workers (omega arith) parts.a_is in
+    let a_is : a ≡ decimal parts.workers = workers_text.0 in
+    subst (AreItsWords (codes "check" ∷ code ∷ a ∷ [])) parts.is (cc, (parts.least, workers_text.1))
+check_of-to (code ∷ a ∷ more ∷ rest) command is = absurd (cc)
+
+-- one command's name after another
+named_check : (name : List ℕ) (words : List (List ℕ)) (command : Command) (is_check : Bool) → bytes_eq name (codes "check") ≡ is_check
+    → cond is_check (check_of words) None ≡ Some command → AreItsWords (name ∷ words) command
+named_check name words command true c is =
+    subst (λ n. AreItsWords (n ∷ words) command) (sym ((bytes_eq-Decides name (codes "check")).0 c)) (check_of-to words command is)
+named_check name words command false c is = absurd (cc)
+
+named_protect : (name : List ℕ) (words : List (List ℕ)) (command : Command) (is_protect : Bool) → bytes_eq name (codes "protect") ≡ is_protect
+    → cond is_protect (protect_of words) (cond (bytes_eq name (codes "check")) (check_of words) None) ≡ Some command → AreItsWords (name ∷ words) command
+named_protect name words command true p is =
+    subst (λ n. AreItsWords (n ∷ words) command) (sym ((bytes_eq-Decides name (codes "protect")).0 p)) (protect_of-to words command is)
+named_protect name words command false p is = named_check name words command (bytes_eq name (codes "check")) refl is
+
+named_gen : (name : List ℕ) (words : List (List ℕ)) (command : Command) (is_gen : Bool) → bytes_eq name (codes "gen") ≡ is_gen
+    → cond is_gen (gen_of words) (cond (bytes_eq name (codes "protect")) (protect_of words) (cond (bytes_eq name (codes "check")) (check_of words) None)) ≡ Some command
+    → AreItsWords (name ∷ words) command
+named_gen name words command true g is =
+    subst (λ n. AreItsWords (n ∷ words) command) (sym ((bytes_eq-Decides name (codes "gen")).0 g)) (gen_of-to words command is)
+named_gen name words command false g is = named_protect name words command (bytes_eq name (codes "protect")) refl is
+
+named_lose : (name : List ℕ) (words : List (List ℕ)) (command : Command) (is_lose : Bool) → bytes_eq name (codes "lose") ≡ is_lose
+    → cond is_lose (lose_of words) (cond (bytes_eq name (codes "gen")) (gen_of words) (cond (bytes_eq name (codes "protect")) (protect_of words)
+    (cond (bytes_eq name (codes "check")) (check_of words) None))) ≡ Some command → AreItsWords (name ∷ words) command
+named_lose name words command true l is =
+    subst (λ n. AreItsWords (n ∷ words) command) (sym ((bytes_eq-Decides name (codes "lose")).0 l)) (lose_of-to words command is)
+named_lose name words command false l is = named_gen name words command (bytes_eq name (codes "gen")) refl is
+
+pub command_of-to : (words : List (List ℕ)) (command : Command) → command_of words ≡ Some command → (words ≡ words_of command) × IsWithinLimits command
+command_of-to [] command is = absurd (cc)
+command_of-to (name ∷ words) command is = named_lose name words command (bytes_eq name (codes "lose")) refl is
+
+channel_of-decimal : (c : ChannelNumbers) → IsChannel c → channel_of (decimal c.w) (decimal c.b) (decimal c.n) (decimal c.t) ≡ Some c
+channel_of-decimal c is =
+    let w = number_to-decimal 4294967295 c.w (omega arith) (omega arith) in
+    let b = number_to-decimal 4294967295 c.b (omega arith) (omega arith) in
+    let n = number_to-decimal 4294967295 c.n (omega arith) (omega arith) in
+    let t = number_to-decimal 4294967295 c.t (omega arith) (omega arith) in
+    let channel = is_channel-from c is in
+    rw (w, b, n, t, channel) refl
+
+pub command_of-words_of : (command : Command) → IsWithinLimits command → command_of (words_of command) ≡ Some command
+command_of-words_of (lose_word c flags) within =
+    rw (channel_of-decimal c within.0, flags_of-characters flags within.1) refl
+command_of-words_of (generate seed count size) within =
+    let seed_is = number_to-decimal 18446744073709551615 seed (omega arith) within.0 in
+    let count_is = number_to-decimal 3999960 count (omega arith) within.1 in
+    let size_is = number_to-decimal 1472 size (omega arith) within.3 in
+    let least : nat_le 12 size ≡ true = grind (arith, nat_tests, within.2) in
+    rw (seed_is, count_is, size_is, least) refl
+command_of-words_of (protect code size) within =
+    let size_is = number_to-decimal 1472 size (omega arith) within.1 in
+    let least : nat_le 12 size ≡ true = grind (arith, nat_tests, within.0) in
+    rw (size_is, least) refl
+command_of-words_of (check code workers) within =
+    let workers_is = number_to-decimal 64 workers (omega arith) within.1 in
+    let least : nat_le 1 workers ≡ true = grind (arith, nat_tests, within.0) in
+    rw (workers_is, least) refl

@@ -1,0 +1,26 @@
+-- The one form of words of each command, as it is typed.
+use Rattle.std.specs.Prelude.{ℕ, ◌≤◌, Bool, true, false, List, [], ◌∷◌, codes, length, map}
+use Rattle.std.specs.Fmt.{decimal}
+use Rattle.sc_channel.specs.Channel.{IsChannel}
+use Rattle.sc_channel.specs.declared.flags.TheConstants.{MAX_FLAGS}
+use Rattle.sc_words.specs.Words.{Command, lose_word, generate, protect, check}
+
+-- the character of a flag: 1 (49) where the slot is lost, and else 0 (48)
+abbrev pub character_of : Bool → ℕ
+character_of true = 49
+character_of false = 48
+
+-- the words that ask for a command, as bytes; numbers are written as they are printed
+abbrev pub words_of : Command → List (List ℕ)
+words_of (lose_word channel flags) =
+    codes "lose" ∷ decimal channel.w ∷ decimal channel.b ∷ decimal channel.n ∷ decimal channel.t ∷ map character_of flags ∷ []
+words_of (generate seed count size) = codes "gen" ∷ decimal seed ∷ decimal count ∷ decimal size ∷ []
+words_of (protect code size) = codes "protect" ∷ code ∷ decimal size ∷ []
+words_of (check code workers) = codes "check" ∷ code ∷ decimal workers ∷ []
+
+-- the limits of what a command may ask for
+abbrev pub IsWithinLimits : Command → Type 0
+IsWithinLimits (lose_word channel flags) = IsChannel channel × (length flags ≤ MAX_FLAGS)
+IsWithinLimits (generate seed count size) = (seed ≤ 18446744073709551615) × (count ≤ 3999960) × (12 ≤ size) × (size ≤ 1472)
+IsWithinLimits (protect code size) = (12 ≤ size) × (size ≤ 1472)
+IsWithinLimits (check code workers) = (1 ≤ workers) × (workers ≤ 64)

@@ -1,0 +1,108 @@
+-- What the words of a command line mean. The forms of the words are of this project.
+use Rattle.std.specs.Prelude.{ℕ, ◌==◌, ◌&&◌, ◌||◌, Bool, List, [], ◌∷◌, Option, Some, None, if◌then◌else◌, codes, length, map, nat_lt, nat_le, slice_index, string_bytes, String}
+use Rattle.std.specs.List.{list_all}
+use Rattle.std.specs.Str.{all_ascii_digits, bytes_eq}
+use Rattle.std.specs.Str.Parse.{digits_value}
+use Rattle.sc_channel.specs.Channel.{ChannelNumbers, is_channel}
+use Rattle.sc_channel.specs.declared.flags.TheConstants.{MAX_FLAGS}
+
+-- a word has one character, or begins with one above the zero (48): with no sign and no leading zero
+abbrev pub begins_plain : List ℕ → Bool
+begins_plain word = length word == 1 || nat_lt 48 (slice_index word 0)
+
+-- decimal digits, at least one, without a leading zero
+abbrev pub is_numeral : List ℕ → Bool
+is_numeral word = all_ascii_digits word && begins_plain word
+
+-- the number of at most so much that a word writes in decimal, without sign and without a leading zero
+unfoldable pub number_to : ℕ → List ℕ → Option ℕ
+number_to most word =
+    if is_numeral word && nat_le (digits_value 10 word) most then Some (digits_value 10 word) else None
+
+-- the channel that four numbers are, where they are one
+abbrev pub channel_at : Option ℕ → Option ℕ → Option ℕ → Option ℕ → Option ChannelNumbers
+channel_at (Some w) (Some b) (Some n) (Some t) =
+    let c : ChannelNumbers = record { w = w; b = b; n = n; t = t } in
+    if is_channel c then Some c else None
+channel_at _ _ _ _ = None
+
+-- the channel that four words write
+abbrev pub channel_of : List ℕ → List ℕ → List ℕ → List ℕ → Option ChannelNumbers
+channel_of w b n t =
+    channel_at (number_to 4294967295 w) (number_to 4294967295 b) (number_to 4294967295 n) (number_to 4294967295 t)
+
+-- the character 0 (48) is a slot that arrives, and 1 (49) one that is lost
+abbrev pub is_flag : ℕ → Bool
+is_flag character = character == 48 || character == 49
+
+abbrev pub is_lost : ℕ → Bool
+is_lost character = character == 49
+
+-- at most as many characters as a loss has flags, each 0 or 1
+unfoldable pub is_loss_word : List ℕ → Bool
+is_loss_word word = nat_le (length word) MAX_FLAGS && list_all is_flag word
+
+-- the flags that a loss word writes, one a character
+unfoldable pub flags_of : List ℕ → Option (List Bool)
+flags_of word = if is_loss_word word then Some (map is_lost word) else None
+
+-- what a command line asks for, one constructor a command
+pub data Command : Type 0 where
+  lose_word : ChannelNumbers → List Bool → Command
+  generate : ℕ → ℕ → ℕ → Command
+  protect : List ℕ → ℕ → Command
+  check : List ℕ → ℕ → Command
+
+-- the command that a channel and flags ask for, where both are there
+abbrev pub lose_at : Option ChannelNumbers → Option (List Bool) → Option Command
+lose_at (Some channel) (Some flags) = Some (lose_word channel flags)
+lose_at _ _ = None
+
+-- W B N T LOSSWORD
+abbrev pub lose_of : List (List ℕ) → Option Command
+lose_of (w ∷ b ∷ n ∷ t ∷ loss ∷ []) = lose_at (channel_of w b n t) (flags_of loss)
+lose_of _ = None
+
+-- the command that a seed, a count and a size of at least 12 ask for, where all are there
+abbrev pub gen_at : Option ℕ → Option ℕ → Option ℕ → Option Command
+gen_at (Some seed) (Some count) (Some size) = if nat_le 12 size then Some (generate seed count size) else None
+gen_at _ _ _ = None
+
+-- SEED COUNT SIZE
+abbrev pub gen_of : List (List ℕ) → Option Command
+gen_of (seed ∷ count ∷ size ∷ []) =
+    gen_at (number_to 18446744073709551615 seed) (number_to 3999960 count) (number_to 1472 size)
+gen_of _ = None
+
+-- the command that a file's name and a size of at least 12 ask for
+abbrev pub protect_at : List ℕ → Option ℕ → Option Command
+protect_at code (Some size) = if nat_le 12 size then Some (protect code size) else None
+protect_at code None = None
+
+-- CODE SIZE
+abbrev pub protect_of : List (List ℕ) → Option Command
+protect_of (code ∷ size ∷ []) = protect_at code (number_to 1472 size)
+protect_of _ = None
+
+-- the command that a file's name and at least one worker ask for
+abbrev pub check_at : List ℕ → Option ℕ → Option Command
+check_at code (Some workers) = if nat_le 1 workers then Some (check code workers) else None
+check_at code None = None
+
+-- CODE WORKERS
+abbrev pub check_of : List (List ℕ) → Option Command
+check_of (code ∷ workers ∷ []) = check_at code (number_to 64 workers)
+check_of _ = None
+
+-- the command whose form the words have: its name, then its words
+abbrev pub command_of : List (List ℕ) → Option Command
+command_of [] = None
+command_of (name ∷ words) =
+    if bytes_eq name (codes "lose") then lose_of words
+    else (if bytes_eq name (codes "gen") then gen_of words
+    else (if bytes_eq name (codes "protect") then protect_of words
+    else (if bytes_eq name (codes "check") then check_of words else None)))
+
+-- the bytes of each word
+abbrev pub texts : {A : Type 0} → List (String A) → List (List ℕ)
+texts words = map string_bytes words

@@ -1,0 +1,8 @@
+//! The words of the command line, and what they ask for.
+#![tactic(auto)]
+
+mod word_laws;
+mod words;
+
+pub use word_laws::{one_form, one_numeral};
+pub use words::{Command, is_loss_word, read_loss_word, read_words};

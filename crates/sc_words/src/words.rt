@@ -1,0 +1,406 @@
+//! The words of the command line.
+
+ghost use Rattle.std.specs.Prelude.{◌≡◌, ◌≤◌, true, Some, IfOk, IfSome, map};
+ghost use Rattle.std.specs.Option.{option_map};
+ghost use Rattle.sc_words.specs.Words.{number_to, begins_plain, channel_of, is_lost, flags_of, is_loss_word, lose_of, gen_of, protect_of, check_of, command_of, texts};
+ghost use Rattle.sc_words.specs.Command.{meaning, HasItsForms};
+
+use sc_channel::{Channel, Flags, MAX_FLAGS};
+use sc_outside::NoMemory;
+use std::alloc::Global;
+
+/// The most records of a generated capture.
+const MAX_COUNT: u32 = 3_999_960;
+
+/// The least and the greatest size of an RTP packet, in bytes.
+const MIN_SIZE: u16 = 12;
+
+const MAX_SIZE: u16 = 1_472;
+
+/// The most workers of a check.
+const MAX_WORKERS: u32 = 64;
+
+/// What a command line asks for. The forms of the words are of this project.
+#[derive(Copy, Clone, Debug, PartialEq, Eq)]
+pub enum Command<'a> {
+    /// `lose W B N T LOSSWORD`: copy a capture without its lost records.
+    LoseWord {
+        /// The channel that the loss has to be admissible for.
+        channel: Channel,
+        /// The loss word: 0 to 4,000,000 characters, one a record, `1` where it is lost, else `0`.
+        flags: &'a str,
+    },
+    /// `gen SEED COUNT SIZE`: write a generated capture.
+    Gen {
+        /// The number from which the packets' bytes are drawn.
+        seed: u64,
+        /// How many records: 0 to 3,999,960.
+        count: u32,
+        /// The size of each packet in bytes: 12 to 1,472.
+        size: u16,
+    },
+    /// `protect CODE SIZE`: protect a capture by a code.
+    Protect {
+        /// The name of the code's file.
+        code: &'a str,
+        /// The greatest size of an RTP packet in bytes: 12 to 1,472.
+        size: u16,
+    },
+    /// `check CODE WORKERS`: whether a code meets its channel.
+    Check {
+        /// The name of the code's file.
+        code: &'a str,
+        /// How many workers share the work: 1 to 64.
+        workers: u32,
+    },
+}
+
+/// The command whose form the words have, the command's name first, and `None` exactly where they
+/// have no form. It takes no memory.
+///
+/// The forms are `lose W B N T LOSSWORD`, `gen SEED COUNT SIZE`, `protect CODE SIZE` and `check CODE WORKERS`. Numbers are
+/// decimal, without sign and without a leading zero. W, B, N and T are a channel; the loss word is 0 to 4,000,000 characters
+/// `0` and `1`. The seed has at most 64 bits, the count is at most 3,999,960, a size is 12 to 1,472, and there are 1 to 64
+/// workers. A file's name is any word. The forms are of this project.
+pub fn read_words(words: &Vec<String>) -> Option<Command<'_>>
+    ensures command { command_of (texts words.now.items) ≡ option_map meaning result }
+    ensures forms { IfSome result HasItsForms }
+{
+    match words.as_slice() {
+        [name, rest @ ..] if name.as_str() == "lose" => read_lose(rest),
+        [name, rest @ ..] if name.as_str() == "gen" => read_gen(rest),
+        [name, rest @ ..] if name.as_str() == "protect" => read_protect(rest),
+        [name, rest @ ..] if name.as_str() == "check" => read_check(rest),
+        _ => None,
+    }
+}
+
+/// The words after `lose`.
+fn read_lose(words: &[String]) -> Option<Command<'_>>
+    ensures command { lose_of (texts words.now) ≡ option_map meaning result }
+    ensures forms { IfSome result HasItsForms }
+{
+    match words {
+        [w, b, n, t, loss] => {
+            let flags = loss.as_str();
+            let channel = read_channel(w.as_str(), b.as_str(), n.as_str(), t.as_str())?;
+            if is_loss_word(flags) {
+                Some(Command::LoseWord { channel, flags })
+            } else {
+                None
+            }
+        }
+        _ => None,
+    }
+}
+
+/// The channel that four words write.
+#[tactic(auto, unfolding(sc_channel::specs::Channel::is_channel))]
+fn read_channel(w: &str, b: &str, n: &str, t: &str) -> Option<Channel>
+    ensures { result ≡ channel_of w.now b.now n.now t.now }
+{
+    let most = u64::from(u32::MAX);
+    let w = number_word(w, most)? as u32;
+    let b = number_word(b, most)? as u32;
+    let n = number_word(n, most)? as u32;
+    let t = number_word(t, most)? as u32;
+    Channel::new(w, b, n, t).ok()
+}
+
+/// The words after `gen`.
+fn read_gen(words: &[String]) -> Option<Command<'_>>
+    ensures command { gen_of (texts words.now) ≡ option_map meaning result }
+    ensures forms { IfSome result HasItsForms }
+{
+    match words {
+        [seed, count, size] => {
+            let seed = number_word(seed.as_str(), u64::MAX)?;
+            let count = number_word(count.as_str(), MAX_COUNT.into())? as u32;
+            let size = number_word(size.as_str(), MAX_SIZE.into())? as u16;
+            if MIN_SIZE <= size {
+                Some(Command::Gen { seed, count, size })
+            } else {
+                None
+            }
+        }
+        _ => None,
+    }
+}
+
+/// The words after `protect`.
+fn read_protect(words: &[String]) -> Option<Command<'_>>
+    ensures command { protect_of (texts words.now) ≡ option_map meaning result }
+    ensures forms { IfSome result HasItsForms }
+{
+    match words {
+        [code, size] => {
+            let code = code.as_str();
+            let size = number_word(size.as_str(), MAX_SIZE.into())? as u16;
+            if size < MIN_SIZE {
+                return None;
+            }
+            Some(Command::Protect { code, size })
+        }
+        _ => None,
+    }
+}
+
+/// The words after `check`.
+fn read_check(words: &[String]) -> Option<Command<'_>>
+    ensures command { check_of (texts words.now) ≡ option_map meaning result }
+    ensures forms { IfSome result HasItsForms }
+{
+    match words {
+        [code, workers] => {
+            let code = code.as_str();
+            let workers = number_word(workers.as_str(), MAX_WORKERS.into())? as u32;
+            if workers == 0 {
+                return None;
+            }
+            Some(Command::Check { code, workers })
+        }
+        _ => None,
+    }
+}
+
+/// The number of at most so much that a word writes in decimal, without sign and without a leading zero.
+fn number_word(word: &str, most: u64) -> Option<u64>
+    ensures number { result ≡ number_to most word.now }
+    ensures bound { IfSome result (λ number. number ≤ most) }
+{
+    // `parse` takes a plus sign and leading zeros too.
+    if !begins_plain(word) {
+        return None;
+    }
+    let number = word.parse::<u64>().ok()?;
+    if number <= most { Some(number) } else { None }
+}
+
+/// Whether a word has one character, or begins with one above `0`: with no sign and no leading zero.
+fn begins_plain(word: &str) -> bool
+    ensures { result ≡ begins_plain word.now }
+{
+    match word.as_bytes() {
+        [_] => true,
+        [first, ..] => b'0' < *first,
+        [] => false,
+    }
+}
+
+/// Whether a word is a loss word: at most 4,000,000 characters, each `0` or `1`. One pass.
+#[tactic(auto, unfolding(crate::specs::Words::is_loss_word))]
+pub fn is_loss_word(word: &str) -> bool
+    ensures { result ≡ is_loss_word word.now }
+{
+    word.len() <= MAX_FLAGS && word.bytes().all(|byte| byte == b'0' || byte == b'1')
+}
+
+/// The flags of a loss word, one a character, set where it is `1`. `Err` only for want of memory,
+/// all of which is taken before the first flag.
+pub fn read_loss_word(alloc: Global, word: &str) -> Result<Flags, NoMemory>
+    requires { is_loss_word word.now ≡ true }
+    ensures flags { IfOk result (λ flags. flags_of word.now ≡ Some flags) }
+    ensures each { IfOk result (λ flags. flags ≡ map is_lost word.now) }
+{
+    let mut flags = Vec::with_capacity(alloc, word.len())?;
+    for byte in word.as_bytes() {
+        flags.push(*byte == b'1')?;
+    }
+    Ok(Flags::from_vec(flags))
+}
+
+#[cfg(test)]
+mod tests {
+    use super::{Command, is_loss_word, number_word, read_loss_word, read_words};
+    use crate::word_laws::{one_form, one_numeral};
+    use std::alloc::{AllocError, Global};
+    use std::test::Fail;
+
+    fn words_of(alloc: Global, line: &str) -> Result<Vec<String>, AllocError> {
+        let mut words = Vec::new(alloc);
+        for word in line.split(' ') {
+            words.push(String::from_str(alloc, word)?)?;
+        }
+        Ok(words)
+    }
+
+    /// Whether the words of a line are `lose` with these numbers and this loss word, or, where it
+    /// is `None`, no form.
+    fn reads_as(
+        alloc: Global,
+        line: &str,
+        numbers: (u32, u32, u32, u32),
+        want: Option<&str>,
+    ) -> Result<bool, AllocError> {
+        let words = words_of(alloc, line)?;
+        Ok(match read_words(&words) {
+            Some(command) => match command {
+                Command::LoseWord { channel, flags } => {
+                    let read = (channel.w(), channel.b(), channel.n(), channel.t());
+                    read == numbers && want == Some(flags)
+                }
+                _ => false,
+            },
+            None => want.is_none(),
+        })
+    }
+
+    #[test]
+    fn reads_the_forms_of_words(rt: HostRuntime) -> Result<(), Fail> {
+        for (line, want) in [
+            ("lose 3 2 1 2 010", Some("010")),
+            ("lose 3 2 1 2 ", Some("")),
+            ("lose 3 2 1 2", None),
+            ("lose 3 2 1 2 0 1", None),
+            ("lose 3 2 1 3 0", None),
+            ("lose 256 2 1 2 0", None),
+            ("lose 03 2 1 2 0", None),
+            ("lose +3 2 1 2 0", None),
+            ("lose 4294967299 2 1 2 0", None),
+            ("lose 3 2 1 2 012", None),
+            ("Lose 3 2 1 2 0", None),
+            ("gen 3 2 1 2 0", None),
+            ("", None),
+        ] {
+            let right = reads_as(rt.alloc(), line, (3, 2, 1, 2), want)?;
+            assert!(rt; right, "at {line}");
+        }
+        Ok(())
+    }
+
+    /// Whether the words of a line are `gen` with these numbers, or, where it is `None`, no form.
+    fn generates_as(
+        alloc: Global,
+        line: &str,
+        want: Option<(u64, u32, u16)>,
+    ) -> Result<bool, AllocError> {
+        let words = words_of(alloc, line)?;
+        Ok(match read_words(&words) {
+            Some(command) => match command {
+                Command::Gen { seed, count, size } => want == Some((seed, count, size)),
+                _ => false,
+            },
+            None => want.is_none(),
+        })
+    }
+
+    #[test]
+    fn reads_the_forms_of_gen(rt: HostRuntime) -> Result<(), Fail> {
+        let most = 18_446_744_073_709_551_615;
+        for (line, want) in [
+            ("gen 42 1 16", Some((42, 1, 16))),
+            ("gen 0 0 12", Some((0, 0, 12))),
+            ("gen 4294967296 1 12", Some((4_294_967_296, 1, 12))),
+            (
+                "gen 18446744073709551615 3999960 1472",
+                Some((most, 3_999_960, 1472)),
+            ),
+            ("gen 18446744073709551616 1 12", None),
+            ("gen 100000000000000000000 1 12", None),
+            ("gen 42 3999961 12", None),
+            ("gen 42 1 11", None),
+            ("gen 42 1 1473", None),
+            ("gen 042 1 16", None),
+            ("gen 42 01 16", None),
+            ("gen 42 1 016", None),
+            ("gen +42 1 16", None),
+            ("gen -1 1 16", None),
+            ("gen  1 16", None),
+            ("gen 42 1", None),
+            ("gen 42 1 16 0", None),
+            ("Gen 42 1 16", None),
+        ] {
+            assert!(rt; generates_as(rt.alloc(), line, want)?, "at {line}");
+        }
+        Ok(())
+    }
+
+    #[test]
+    fn reads_the_forms_of_protect(rt: HostRuntime) -> Result<(), Fail> {
+        for (line, want) in [
+            ("protect code.json 12", Some(("code.json", 12))),
+            ("protect  1472", Some(("", 1472))),
+            ("protect 12 13", Some(("12", 13))),
+            ("protect code.json 11", None),
+            ("protect code.json 1473", None),
+            ("protect code.json 012", None),
+            ("protect code.json", None),
+            ("protect code.json 12 12", None),
+            ("Protect code.json 12", None),
+        ] {
+            let words = words_of(rt.alloc(), line)?;
+            let right = match read_words(&words) {
+                Some(command) => match command {
+                    Command::Protect { code, size } => want == Some((code, size)),
+                    _ => false,
+                },
+                None => want.is_none(),
+            };
+            assert!(rt; right, "at {line}");
+        }
+        Ok(())
+    }
+
+    #[test]
+    fn reads_the_forms_of_check(rt: HostRuntime) -> Result<(), Fail> {
+        for (line, want) in [
+            ("check code.json 1", Some(("code.json", 1))),
+            ("check  64", Some(("", 64))),
+            ("check 1 2", Some(("1", 2))),
+            ("check code.json 0", None),
+            ("check code.json 65", None),
+            ("check code.json 01", None),
+            ("check code.json", None),
+            ("check code.json 1 1", None),
+            ("Check code.json 1", None),
+        ] {
+            let words = words_of(rt.alloc(), line)?;
+            let right = match read_words(&words) {
+                Some(command) => match command {
+                    Command::Check { code, workers } => want == Some((code, workers)),
+                    _ => false,
+                },
+                None => want.is_none(),
+            };
+            assert!(rt; right, "at {line}");
+        }
+        Ok(())
+    }
+
+    #[test]
+    fn laws_are_held() {
+        one_form();
+        one_numeral();
+    }
+
+    #[test]
+    fn reads_numbers(rt: HostRuntime) {
+        for (word, most, want) in [
+            ("0", 0, Some(0)),
+            ("1", 0, None),
+            ("10", 10, Some(10)),
+            ("11", 10, None),
+            ("4294967295", 4_294_967_295, Some(4_294_967_295)),
+            ("4294967296", 4_294_967_295, None),
+            ("18446744073709551615", u64::MAX, Some(u64::MAX)),
+            ("18446744073709551616", u64::MAX, None),
+            ("00", 10, None),
+            ("+1", 10, None),
+            ("-1", 10, None),
+            ("-", 10, None),
+            ("1a", 10, None),
+            ("", 10, None),
+        ] {
+            assert_eq!(rt; number_word(word, most), want, "at {word}");
+        }
+    }
+
+    #[test]
+    fn reads_a_loss_word(rt: HostRuntime) -> Result<(), Fail> {
+        let word = "010";
+        assert!(rt; is_loss_word(word));
+        let flags = read_loss_word(rt.alloc(), word)?;
+        assert_eq!(rt; flags.as_slice(), [false, true, false].as_slice());
+        Ok(())
+    }
+}

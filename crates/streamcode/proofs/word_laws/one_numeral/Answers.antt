@@ -1,7 +1,0 @@
-use Rattle.std.proofs.Common.{ap, ◌∙◌}
-use Rattle.streamcode.specs.Words.{number_to}
-use Rattle.streamcode.proofs.Numbers.{number_to-to_decimal, number_to-decimal}
-use Rattle.streamcode.proofs.word_laws.one_numeral.Goals as goal
-
-pub returns : goal.returns
-returns c = λ most word n fits. (number_to-to_decimal most word n fits, λ h. ap (number_to most) h.0 ∙ number_to-decimal most n fits h.1)
