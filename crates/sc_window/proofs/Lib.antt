@@ -1,0 +1,3 @@
+pub mod SpellLaws
+pub mod WindowSteps
+pub mod RowSteps
