@@ -25,6 +25,12 @@ lost_width k n class e = let c = count-lost class in e ∙ ap (λ (s : ℕ). k *
 pub kept_width : (k n : ℕ) (class : List Bool) → n ≡ k * set_count (false ∷ class) → n ≡ k * set_count class
 kept_width k n class e = e ∙ ap (λ (s : ℕ). k * s) (count-kept class)
 
+-- the symbols of slot 0 are among those of the lost slots
+pub first_width : (k : ℕ) (class : List Bool) → IsSet class 0 → k ≤ k * set_count class
+first_width k [] set = absurd (both_ways _ refl set)
+first_width k (true ∷ class) set = let w = lost_width k (k * set_count (true ∷ class)) class refl in omega arith
+first_width k (false ∷ class) set = absurd (both_ways _ refl set)
+
 module _ {A : Type 0} {P : A → Type 0} where
   vector_as : {m : ℕ} (n : ℕ) (v : List A) → m ≡ n → IsVector P m v → IsVector P n v
   vector_as n v e h = record { width = h.width ∙ e; entries = h.entries }

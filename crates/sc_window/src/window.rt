@@ -1,8 +1,8 @@
 //! The matrix of a loss: a column for each lost symbol and a row for each kept parity.
 
-ghost use Rattle.std.specs.Prelude.{◌≡◌, ◌↔◌, ◌<◌, ◌≤◌, ◌+◌, ◌-◌, ◌*◌, ◌++◌, [], List, length, map, IfOk, OnOk};
-ghost use Rattle.sc_channel.specs.Flags.{IsSet, set_count};
-ghost use Rattle.sc_matrix.specs.Matrix.{IsMatrix, row_count};
+ghost use Rattle.std.specs.Prelude.{◌≡◌, ◌↔◌, ◌<◌, ◌≤◌, ◌-◌, ◌*◌, ◌++◌, [], List, length, map, IfOk, OnOk};
+ghost use Rattle.sc_channel.specs.Flags.{set_count};
+ghost use Rattle.sc_matrix.specs.Matrix.{row_count};
 ghost use Rattle.sc_matrix.specs.Vector.{IsVector};
 ghost use Rattle.sc_echelon.specs.Kernel.{IsKernelVector};
 ghost use Rattle.sc_window.specs.Window.{spelled, IsZeroWhereKept};
@@ -16,8 +16,7 @@ use std::alloc::Global;
 
 /// The matrix whose kernel is the streams that are zero in each kept slot, in block and parity.
 ///
-/// `class` has a flag for each slot from slot 0 on, which is set where the slot is lost; there are 1 to 41 flags, and that of
-/// slot 0 is set. The matrix has a column for each symbol of a lost slot, in the order of the slots, and a row for each parity
+/// `class` has a flag for each slot from slot 0 on, which is set where the slot is lost; there are at most 41. The matrix has a column for each symbol of a lost slot, in the order of the slots, and a row for each parity
 /// symbol of a kept slot. A vector of an entry for each column spells a stream, whose kept blocks are zero.
 ///
 /// It costs a look at one coefficient for each entry.
@@ -26,9 +25,7 @@ pub fn window_matrix<F: Field>(
     code: &Code<F>,
     class: &[bool],
 ) -> Result<Matrix<F>, NoMemory>
-    requires some { 1 ≤ length class.now }
-    requires few { length class.now ≤ 41 }
-    requires first_lost { IsSet class.now 0 }
+    requires { length class.now ≤ 41 }
     ensures cols { IfOk result (λ m. m.cols ≡ code.now.k * set_count class.now) }
     ensures rows { IfOk result (λ m. row_count m ≡ code.now.r * (length class.now - set_count class.now)) }
     ensures kernel { IfOk result (λ m. (v : List F) → IsKernelVector F.IsElement F.zero F.add F.mul m.cols m.rows v

@@ -13,7 +13,7 @@ with_capacity-requires g c =
     let code = c.args.code.now in
     let lost = c.count_lost-lost.result in
     rw (c.k.ensures.number, c.r.ensures.number)
-    (window_room code.k code.r (length code.lags) (length c.args.class.now) lost c.r.ensures.limits.in_range c.count_lost-lost.ensures.within c.requires.few)
+    (window_room code.k code.r (length code.lags) (length c.args.class.now) lost c.r.ensures.limits.in_range c.count_lost-lost.ensures.within c.requires)
 
 pub returns-clause-rows : goal.returns-clause-rows
 returns-clause-rows g c = ap row_count c.in_ok-push_rows.ensures ∙ length-window_of g.F.Field.zero c.args.code.now c.args.class.now
