@@ -1,0 +1,5 @@
+pub mod SpellLaws
+pub mod WindowSteps
+pub mod RowSteps
+pub mod DecideSteps
+pub mod OrderSteps

@@ -1,0 +1,8 @@
+//! Whether the slots that a loss leaves determine block 0, and where they don't, the least stream that shows it.
+#![tactic(auto)]
+
+mod decide;
+mod window;
+
+pub use decide::{decides, least_difference};
+pub use window::window_matrix;
