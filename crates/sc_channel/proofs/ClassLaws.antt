@@ -4,7 +4,7 @@ use Rattle.std.proofs.Common.{◌≡◌, ℕ, zero as none, suc, ◌+◌, ◌-�
 use Rattle.std.proofs.lemmas.Bool.{both_ways, cases_lt}
 use Rattle.std.proofs.lemmas.List.{append-nil, length-append, length-map, length-replicate, get_or-map, get_or-replicate, get_or_append_left, get_or-append_right, get_or_past}
 use Rattle.std.proofs.lemmas.List.Elements.{All-nil, All-cons, All-append, All-map, All-weaker, Contains-append_left, Contains-append_right}
-use Rattle.sc_channel.specs.Channel.{ChannelNumbers, IsOrdered}
+use Rattle.sc_channel.specs.Channel.{ChannelNumbers, IsOrdered, IsChannel}
 use Rattle.sc_channel.specs.Flags.{IsSet, set_count}
 use Rattle.sc_channel.specs.Loss.{IsFine, few, close, IsAdmissible}
 use Rattle.sc_channel.specs.Classes.{flags_with, burst_class, IsClass, burst, spread, classes_of, class_count}
@@ -162,6 +162,10 @@ pub length-class : (channel : ChannelNumbers) (class : List Bool) → IsOrdered 
 length-class channel class ordered (burst e) = ap length e ∙ length-burst channel ordered.span_in_deadline
 length-class channel class ordered (spread l set count) = l
 
+pub IsSet-class : (channel : ChannelNumbers) (class : List Bool) → IsOrdered channel.w channel.b channel.n channel.t → IsClass channel class → IsSet class 0
+IsSet-class channel class ordered (burst e) = subst (λ (flags : List Bool). IsSet flags 0) (sym e) (IsSet-burst_from channel 0 (omega (arith, ordered.some_loss, ordered.count_in_span)))
+IsSet-class channel class ordered (spread l set count) = set
+
 pub IsAdmissible-class : (channel : ChannelNumbers) (class : List Bool) → IsClass channel class → IsAdmissible channel class
 IsAdmissible-class channel class (burst e) = subst (IsAdmissible channel) (sym e) (IsAdmissible-from_fine channel (burst_class channel) (burst_fine channel))
 IsAdmissible-class channel class (spread l set count) = IsAdmissible-from_fine channel class (few (omega arith))
@@ -212,3 +216,12 @@ Contains-class channel class (spread l set count) = spread_listed channel class 
 
 pub class-from_contains : (channel : ChannelNumbers) (class : List Bool) → IsOrdered channel.w channel.b channel.n channel.t → Contains (classes_of channel) class → IsClass channel class
 class-from_contains channel class ordered (k, lt, e) = subst (IsClass channel) e (All-classes channel ordered k class lt)
+
+-- the one at an index
+pub IsClass-at : (channel : ChannelNumbers) (index : ℕ) → IsOrdered channel.w channel.b channel.n channel.t → index < class_count channel → IsClass channel (get_or (classes_of channel) index [])
+IsClass-at channel index ordered lt = All-classes channel ordered index [] (omega (arith, length-classes_of channel))
+
+pub IsClass-written : (made channel : ChannelNumbers) (index : ℕ) (flags : List Bool) → made ≡ channel → IsChannel made → index < class_count channel → flags ≡ get_or (classes_of channel) index [] → IsClass channel flags
+IsClass-written made channel index flags same numbers lt e =
+    let at : IsChannel channel = subst IsChannel same numbers in
+    subst (IsClass channel) (sym e) (IsClass-at channel index at.ordered lt)

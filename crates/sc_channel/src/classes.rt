@@ -96,7 +96,8 @@ impl Classes {
     /// Class `index`, a loss of `t + 1` flags.
     pub fn class(&self, alloc: Global, index: u32) -> Result<Flags, NoMemory>
         requires { index < class_count self.now }
-        ensures { IfOk result (λ class. class ≡ slice_index_or (classes_of self.now) index []) }
+        ensures class { IfOk result (λ class. class ≡ slice_index_or (classes_of self.now) index []) }
+        ensures is_class { IfOk result (λ class. IsClass self.now class) }
     {
         let mut flags = vec![in alloc; false; self.channel.t() as usize + 1]?;
         self.write_class(index, &mut flags);
@@ -107,7 +108,8 @@ impl Classes {
     pub fn write_class(&self, index: u32, flags: &mut [bool])
         requires in_range { index < class_count self.now }
         requires room { length flags.old ≡ self.now.t + 1 }
-        ensures { flags.new ≡ slice_index_or (classes_of self.now) index [] }
+        ensures class { flags.new ≡ slice_index_or (classes_of self.now) index [] }
+        ensures is_class { IsClass self.now flags.new }
     {
         if index == 0 {
             write_burst(flags, self.channel.b() as usize);
@@ -182,6 +184,8 @@ pub fn classes_are_all_classes()
     ensures count { (channel : ChannelNumbers) → length (classes_of channel) ≡ class_count channel }
     ensures lengths { (channel : ChannelNumbers) (class : List Bool) → IsOrdered channel.w channel.b channel.n channel.t → IsClass channel class
         → length class ≡ channel.t + 1 }
+    ensures first_lost { (channel : ChannelNumbers) (class : List Bool) → IsOrdered channel.w channel.b channel.n channel.t → IsClass channel class
+        → IsSet class 0 }
     ensures admissible { (channel : ChannelNumbers) (class : List Bool) → IsClass channel class → IsAdmissible channel class }
     ensures contain { (channel : ChannelNumbers) (loss : List Bool) → IsOrdered channel.w channel.b channel.n channel.t → length loss ≡ channel.t + 1 → IsSet loss 0 → IsAdmissible channel loss
         → (class : List Bool) × (IsClass channel class × ((place : ℕ) → IsSet loss place → IsSet class place)) }
