@@ -81,10 +81,27 @@ pub fn least_difference<F: Field>(
     match reduced.least_kernel(alloc, code.k())? {
         None => Ok(None),
         Some(vector) => {
-            let numbers = spell(alloc, code.k(), class, vector.as_slice())?;
-            Ok(Some(Stream::new(code.k(), numbers)))
+            let stream = stream_of(alloc, code.k(), class, vector.as_slice())?;
+            Ok(Some(stream))
         }
     }
+}
+
+// The stream that a vector spells, of the symbols' numbers.
+fn stream_of<F: Field>(
+    alloc: Global,
+    k: usize,
+    class: &[bool],
+    vector: &[F],
+) -> Result<Stream, NoMemory>
+    requires some { 1 ≤ k }
+    requires small { k ≤ 64 }
+    requires few { length class.now ≤ 41 }
+    requires width { length vector.now ≡ k * set_count class.now }
+    ensures { IfOk result (λ s. s ≡ map (map F.number) (spelled F.zero k class.now vector.now)) }
+{
+    let numbers = spell(alloc, k, class, vector)?;
+    Ok(Stream::new(k, numbers))
 }
 
 // The numbers of the symbols of the stream that a vector spells, block after block.
@@ -116,7 +133,7 @@ fn spell<F: Field>(
 fn push_zeros<F: Field>(numbers: &mut Vec<u8>, k: usize) -> Result<(), NoMemory>
     ensures { OnOk result (numbers.new.items ≡ numbers.old.items ++ map F.number (replicate k F.zero)) }
 {
-    for _ in 0..k {
+    for _i in 0..k {
         numbers.push(F::zero().number())?;
     }
     Ok(())
