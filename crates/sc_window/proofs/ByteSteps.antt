@@ -1,7 +1,7 @@
 -- Over the bytes as elements of a field, a difference in elements is one in streams of width 1, and the least is the least.
 use Rattle.std.proofs.Common.{◌≡◌, ◌≢◌, ◌⊎◌, ℕ, zero as naught, suc, ◌+◌, ◌<◌, ◌≤◌, Bool, List, [], ◌∷◌, ◌++◌, length, get_or, map, replicate, All, bit_xor, refl, sym, ap, ap₂, ◌∙◌, subst, arith, inl, inr}
 use Rattle.std.proofs.lemmas.Bool.{cases_lt}
-use Rattle.std.proofs.lemmas.List.{length-map, map-append, get_or-map, get_or_past, get_or-replicate, length-replicate}
+use Rattle.std.proofs.lemmas.List.{length-map, map-append, map-id, get_or-map, get_or_past, get_or-replicate, length-replicate}
 use Rattle.std.proofs.lemmas.List.Elements.{All-nil, All-cons, All-head, All-tail, All-map}
 use Rattle.sc_matrix.proofs.VectorLaws.{IsVector-map}
 use Rattle.sc_matrix.specs.Module.{IsByte}
@@ -51,13 +51,9 @@ elements_again [] = refl
 elements_again (n ∷ b) = ap (λ (ns : List ℕ). n ∷ ns) (elements_again b)
 
 -- the numbers of bytes are the bytes
-map-same : (b : List ℕ) → map (λ n. n) b ≡ b
-map-same [] = refl
-map-same (n ∷ b) = ap (λ (ns : List ℕ). n ∷ ns) (map-same b)
-
 pub numbers-same : (xs : List (List ℕ)) → map (map (λ n. n)) xs ≡ xs
 numbers-same [] = refl
-numbers-same (b ∷ xs) = ap₂ (λ (c : List ℕ) (ys : List (List ℕ)). c ∷ ys) (map-same b) (numbers-same xs)
+numbers-same (b ∷ xs) = ap₂ (λ (c : List ℕ) (ys : List (List ℕ)). c ∷ ys) (map-id b) (numbers-same xs)
 
 -- ---- blocks and symbols
 block-as_bytes : (xs : List (List ℕ)) (t : ℕ) → block_at (as_bytes xs) t ≡ map symbol_of (get_or xs t [])

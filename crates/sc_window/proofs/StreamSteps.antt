@@ -3,12 +3,12 @@ use Rattle.std.proofs.Common.{◌≡◌, ℕ, zero as naught, suc, ◌+◌, ◌-
 use Rattle.std.proofs.Math.Nat.{mul-div_cancel, mul-mod_left}
 use Rattle.std.proofs.Math.Seq.{take-append_seam}
 use Rattle.std.proofs.lemmas.List.{append_assoc, length-append, length-map, map-append, drop-drop, drop_more, drop_at}
-use Rattle.std.proofs.lemmas.List.Elements.{All-head, All-tail}
+use Rattle.std.proofs.lemmas.List.Elements.{All-head, All-tail, All-map}
 use Rattle.sc_channel.specs.Flags.{set_count}
 use Rattle.sc_matrix.specs.Layout.{cut}
 use Rattle.sc_matrix.specs.Vector.{IsVector}
 use Rattle.sc_window.specs.Window.{symbols_of, spelled}
-use Rattle.sc_window.proofs.SpellLaws.{lost_width, kept_width, blocks-spelled}
+use Rattle.sc_window.proofs.SpellLaws.{lost_width, kept_width, length-spelled, blocks-spelled}
 
 -- ---- what is left of a vector while its stream is written
 module _ (k t : ℕ) (class : List Bool) (width from : ℕ) (lt : t < length class) (left : width ≡ from + k * set_count (drop t class)) where
@@ -88,3 +88,12 @@ module _ {A : Type 0} (zero : A) (number : A → ℕ) (k : ℕ) (class : List Bo
   blocks_again =
       let count : length ns / k ≡ length (spelled zero k class v) = ap (λ (n : ℕ). n / k) length-numbers ∙ mul-div_cancel (length (spelled zero k class v)) some in
       ap₂ (λ (n : ℕ) (ms : List ℕ). cut n k ms) count e ∙ cut-symbols_of number k (spelled zero k class v) spelled_blocks
+
+-- the sizes of a stream of numbers
+pub length-numbers_spelled : {A : Type 0} (zero : A) (number : A → ℕ) (k : ℕ) (class : List Bool) (v : List A) → length (map (map number) (spelled zero k class v)) ≡ length class
+length-numbers_spelled zero number k class v = length-map (spelled zero k class v) (map number) ∙ length-spelled zero k class v
+
+pub widths-numbers_spelled : {A : Type 0} (zero : A) (number : A → ℕ) (k : ℕ) (class : List Bool) (v : List A) → length v ≡ k * set_count class → All (λ block. length block ≡ k) (map (map number) (spelled zero k class v))
+widths-numbers_spelled zero number k class v width =
+    let blocks = blocks-spelled {IsElement = AnyEntry} zero tt k class v (record { width = width; entries = λ i d lt. tt }) in
+    All-map (λ (block : List ℕ). length block ≡ k) (map number) (spelled zero k class v) (λ i d lt. length-map (get_or (spelled zero k class v) i d) number ∙ (blocks i d lt).width)

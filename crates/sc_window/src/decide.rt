@@ -1,6 +1,6 @@
 //! Whether a loss is decided, and the least difference where it isn't.
 
-ghost use Rattle.std.specs.Prelude.{◌≡◌, ◌↔◌, ◌<◌, ◌≤◌, ◌*◌, ◌++◌, ℕ, List, length, map, replicate, IsTrue, IfOk, OnOk, MatchOption};
+ghost use Rattle.std.specs.Prelude.{◌≡◌, ◌↔◌, ◌<◌, ◌≤◌, ◌*◌, ◌++◌, ℕ, List, length, map, replicate, IsTrue, All, IfOk, OnOk, IfSome, MatchOption};
 ghost use Rattle.sc_channel.specs.Flags.{IsSet, set_count};
 ghost use Rattle.sc_matrix.specs.Vector.{IsVector};
 ghost use Rattle.sc_echelon.specs.Kernel.{IsKernelVector, IsFree};
@@ -73,9 +73,11 @@ pub fn least_difference<F: Field>(
 ) -> Result<Option<Stream>, NoMemory>
     requires few { length class.now ≤ 41 }
     requires first_lost { IsSet class.now 0 }
-    ensures { IfOk result (λ least. MatchOption least
+    ensures least { IfOk result (λ least. MatchOption least
         (IsDecidedOver F.IsElement F.zero F.add F.mul code.now class.now)
         (IsLeastDifference F.IsElement F.zero F.add F.mul F.number code.now class.now)) }
+    ensures blocks { IfOk result (λ least. IfSome least (λ s. length s ≡ length class.now)) }
+    ensures symbols { IfOk result (λ least. IfSome least (λ s. All (λ block. length block ≡ code.now.k) s)) }
 {
     let reduced = reduced_window(alloc, code, class)?;
     match reduced.least_kernel(alloc, code.k())? {
@@ -98,7 +100,9 @@ fn stream_of<F: Field>(
     requires small { k ≤ 64 }
     requires few { length class.now ≤ 41 }
     requires width { length vector.now ≡ k * set_count class.now }
-    ensures { IfOk result (λ s. s ≡ map (map F.number) (spelled F.zero k class.now vector.now)) }
+    ensures spelled { IfOk result (λ s. s ≡ map (map F.number) (spelled F.zero k class.now vector.now)) }
+    ensures blocks { IfOk result (λ s. length s ≡ length class.now) }
+    ensures symbols { IfOk result (λ s. All (λ block. length block ≡ k) s) }
 {
     let numbers = spell(alloc, k, class, vector)?;
     Ok(Stream::new(k, numbers))
