@@ -3,3 +3,5 @@ pub mod WindowSteps
 pub mod RowSteps
 pub mod DecideSteps
 pub mod OrderSteps
+pub mod StreamSteps
+pub mod ByteSteps

@@ -1,6 +1,6 @@
 //! Whether a loss is decided, and the least difference where it isn't.
 
-ghost use Rattle.std.specs.Prelude.{◌≡◌, ◌↔◌, ◌<◌, ◌≤◌, ◌*◌, ◌++◌, ℕ, List, length, map, replicate, IsTrue, IfOk, OnOk, MatchOption};
+ghost use Rattle.std.specs.Prelude.{◌≡◌, ◌↔◌, ◌<◌, ◌≤◌, ◌*◌, ◌++◌, ℕ, List, length, map, replicate, IsTrue, All, IfOk, OnOk, IfSome, MatchOption};
 ghost use Rattle.sc_channel.specs.Flags.{IsSet, set_count};
 ghost use Rattle.sc_matrix.specs.Vector.{IsVector};
 ghost use Rattle.sc_echelon.specs.Kernel.{IsKernelVector, IsFree};
@@ -73,18 +73,39 @@ pub fn least_difference<F: Field>(
 ) -> Result<Option<Stream>, NoMemory>
     requires few { length class.now ≤ 41 }
     requires first_lost { IsSet class.now 0 }
-    ensures { IfOk result (λ least. MatchOption least
+    ensures least { IfOk result (λ least. MatchOption least
         (IsDecidedOver F.IsElement F.zero F.add F.mul code.now class.now)
         (IsLeastDifference F.IsElement F.zero F.add F.mul F.number code.now class.now)) }
+    ensures blocks { IfOk result (λ least. IfSome least (λ s. length s ≡ length class.now)) }
+    ensures symbols { IfOk result (λ least. IfSome least (λ s. All (λ block. length block ≡ code.now.k) s)) }
 {
     let reduced = reduced_window(alloc, code, class)?;
     match reduced.least_kernel(alloc, code.k())? {
         None => Ok(None),
         Some(vector) => {
-            let numbers = spell(alloc, code.k(), class, vector.as_slice())?;
-            Ok(Some(Stream::new(code.k(), numbers)))
+            let stream = stream_of(alloc, code.k(), class, vector.as_slice())?;
+            Ok(Some(stream))
         }
     }
+}
+
+// The stream that a vector spells, of the symbols' numbers.
+fn stream_of<F: Field>(
+    alloc: Global,
+    k: usize,
+    class: &[bool],
+    vector: &[F],
+) -> Result<Stream, NoMemory>
+    requires some { 1 ≤ k }
+    requires small { k ≤ 64 }
+    requires few { length class.now ≤ 41 }
+    requires width { length vector.now ≡ k * set_count class.now }
+    ensures spelled { IfOk result (λ s. s ≡ map (map F.number) (spelled F.zero k class.now vector.now)) }
+    ensures blocks { IfOk result (λ s. length s ≡ length class.now) }
+    ensures symbols { IfOk result (λ s. All (λ block. length block ≡ k) s) }
+{
+    let numbers = spell(alloc, k, class, vector)?;
+    Ok(Stream::new(k, numbers))
 }
 
 // The numbers of the symbols of the stream that a vector spells, block after block.
@@ -116,7 +137,7 @@ fn spell<F: Field>(
 fn push_zeros<F: Field>(numbers: &mut Vec<u8>, k: usize) -> Result<(), NoMemory>
     ensures { OnOk result (numbers.new.items ≡ numbers.old.items ++ map F.number (replicate k F.zero)) }
 {
-    for _ in 0..k {
+    for _i in 0..k {
         numbers.push(F::zero().number())?;
     }
     Ok(())

@@ -2,7 +2,9 @@
 #![tactic(auto)]
 
 mod decide;
+mod laws;
 mod window;
 
 pub use decide::{decides, least_difference};
+pub use laws::{differences_are_bytes, vectors_spell_streams};
 pub use window::window_matrix;
