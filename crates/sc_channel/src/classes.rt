@@ -98,6 +98,7 @@ impl Classes {
         requires { index < class_count self.now }
         ensures class { IfOk result (λ class. class ≡ slice_index_or (classes_of self.now) index []) }
         ensures is_class { IfOk result (λ class. IsClass self.now class) }
+        ensures limits { IsChannel self.now }
     {
         let mut flags = vec![in alloc; false; self.channel.t() as usize + 1]?;
         self.write_class(index, &mut flags);
@@ -110,6 +111,7 @@ impl Classes {
         requires room { length flags.old ≡ self.now.t + 1 }
         ensures class { flags.new ≡ slice_index_or (classes_of self.now) index [] }
         ensures is_class { IsClass self.now flags.new }
+        ensures limits { IsChannel self.now }
     {
         if index == 0 {
             write_burst(flags, self.channel.b() as usize);

@@ -1,1 +1,2 @@
 pub mod FailingSteps
+pub mod VerdictSteps

@@ -3,7 +3,6 @@
 ghost use Rattle.std.specs.Prelude.{◌≡◌, ◌↔◌, ◌<◌, ◌≤◌, ◌+◌, ◌*◌, ◌/◌, length, IsTrue, IfOk, MatchOption};
 ghost use Rattle.std.specs.Thread.{IsSync};
 ghost use Rattle.sc_field.specs.Gf256.{gf256_product};
-ghost use Rattle.sc_channel.specs.Channel.{IsChannel};
 ghost use Rattle.sc_channel.specs.Flags.{IsSet};
 ghost use Rattle.sc_channel.specs.Classes.{class_count};
 ghost use Rattle.sc_code.specs.Determined.{IsDecided};
@@ -125,7 +124,6 @@ fn first_by(
     to: u32,
     flags: &mut [bool],
 ) -> Result<Option<u32>, NoMemory>
-    requires limits { IsChannel classes.now }
     requires within { to ≤ class_count classes.now }
     requires room { length flags.old ≡ classes.now.t + 1 }
     ensures { IfOk result (FirstIn code.now classes.now from to) }
