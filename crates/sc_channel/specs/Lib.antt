@@ -2,3 +2,4 @@ pub mod Channel
 pub mod Flags
 pub mod Loss
 pub mod Sweep
+pub mod Classes

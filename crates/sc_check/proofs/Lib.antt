@@ -1,1 +1,3 @@
+pub mod FailingSteps
+pub mod VerdictSteps
 pub mod AnswerLaws

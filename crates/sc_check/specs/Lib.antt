@@ -1,1 +1,3 @@
+pub mod Failing
+pub mod Verdict
 pub mod Answer

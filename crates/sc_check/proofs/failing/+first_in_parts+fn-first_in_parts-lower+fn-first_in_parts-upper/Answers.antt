@@ -1,0 +1,20 @@
+use Rattle.std.proofs.Common.{◌≡◌, ◌+◌, ◌-◌, ◌*◌, ◌/◌, ℕ, Option, arith, sym, subst}
+use Rattle.std.proofs.lemmas.Result.{IfOk-at_ok}
+use Rattle.sc_channel.specs.Classes.{class_count}
+use Rattle.sc_check.specs.Failing.{FirstIn}
+use Rattle.sc_check.proofs.FailingSteps.{FirstIn-least, start-mono}
+use Rattle.sc_check.proofs.failing.+first_in_parts+fn-first_in_parts-lower+fn-first_in_parts-upper.Goals as goal
+
+pub returns : goal.returns
+returns g t c =
+    let code = c.args.code.now in
+    let channel = c.args.classes.now in
+    let count = class_count channel in
+    let parts = c.args.parts in
+    let middle = c.args.from + (c.args.to - c.args.from) / 2 in
+    rw c.least.ensures
+    (FirstIn-least code channel (c.args.from * count / parts) (middle * count / parts) (c.args.to * count / parts) c.in_ok-left.field-0 c.in_ok-right.field-0
+    (start-mono c.args.from middle count parts (omega arith) (omega arith))
+    (start-mono middle c.args.to count parts (omega arith) (omega arith))
+    (IfOk-at_ok (FirstIn code channel (c.args.from * count / parts) (middle * count / parts)) c.in_ok-left.was c.join-left.ensures.first)
+    (IfOk-at_ok (FirstIn code channel (middle * count / parts) (c.args.to * count / parts)) c.in_ok-right.was c.join-left.ensures.second))

@@ -1,0 +1,12 @@
+//! Whether a code meets a channel: all its classes of losses, by workers in parts, or the least refutation.
+#![tactic(auto)]
+
+mod failing;
+mod gate;
+mod laws;
+mod verdict;
+
+pub use failing::{MAX_WORKERS, first_failing};
+pub use gate::{Gate, NoGate};
+pub use laws::meets_where_classes_decide;
+pub use verdict::{Verdict, check};
