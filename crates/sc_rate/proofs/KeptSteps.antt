@@ -11,6 +11,7 @@ use Rattle.std.proofs.lemmas.List.FromFn.{length-range_with_len, get_or-range_wi
 use Rattle.std.proofs.lemmas.List.Kept.{AllPairs-from_increasing}
 use Rattle.std.proofs.lemmas.List.Sums.{length-filter, count_by-le-length}
 use Rattle.std.proofs.lemmas.Map.Keys.{IsDistinct-from_apart}
+use Rattle.std.proofs.lemmas.Map.Steps.{length-le_from_distinct_below}
 use Rattle.std.proofs.lemmas.Map.Made.{length-le_from_is_member, is_member-filter}
 use Rattle.std.proofs.lemmas.Map.Views.{Contains-from_any, list_any-from_Contains}
 use Rattle.sc_channel.specs.Certificate.{CertificateNumbers, IsCertificate, is_lost}
@@ -61,6 +62,12 @@ lost_distinct certificate valid =
     IsDistinct-from_apart eqb certificate.lost (λ i j d before within.
     let rises : get_or certificate.lost i d < get_or certificate.lost j d = AllPairs-from_increasing certificate.lost valid.in_order i j d before within in
     ne_eqb _ _ (λ e. omega arith))
+
+-- there are no more lost residues than slots of a period
+pub length-lost : (certificate : CertificateNumbers) → IsCertificate certificate → length certificate.lost ≤ certificate.period
+length-lost certificate valid =
+    length-le_from_distinct_below certificate.lost certificate.period (lost_distinct certificate valid) (λ q found.
+    All-contains (λ residue. residue < certificate.period) certificate.lost q valid.in_period (Contains-from_any {eq = eqb} eqb-true q certificate.lost found))
 
 -- a number below n that passes the test is among those that the filter keeps
 pub is_member-filter_below : (test : ℕ → Bool) (n q : ℕ) → q < n → test q ≡ true → is_member eqb (filter test (range_with_len 0 n)) q ≡ true

@@ -10,3 +10,5 @@ pub mod WordSteps
 pub mod KeptSteps
 pub mod DeadlineSteps
 pub mod BoundSteps
+pub mod StandardSteps
+pub mod ResidueSteps

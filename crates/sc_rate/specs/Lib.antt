@@ -1,2 +1,4 @@
 pub mod TableCode
 pub mod Rate
+pub mod Residue
+pub mod Standard

@@ -2,5 +2,11 @@
 #![tactic(auto)]
 
 mod laws;
+mod make_standard;
+mod rate;
+mod residue;
 
-pub use laws::certificate_bounds_rate;
+pub use laws::{certificate_bounds_rate, standard_is_accepted};
+pub use make_standard::{standard, standard_numbers};
+pub use rate::{Rate, compare};
+pub use residue::first_bad_residue;
