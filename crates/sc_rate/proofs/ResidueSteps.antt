@@ -1,5 +1,5 @@
 -- A search among a certificate's lost residues.
-use Rattle.std.proofs.Common.{◌≡◌, ◌⊎◌, inl, inr, ℕ, ◌+◌, ◌%◌, ◌<◌, ◌≤◌, Bool, true, false, List, length, get_or, eqb, Result, Ok, Err, MatchResult, refl, sym, ap, ◌∙◌, arith}
+use Rattle.std.proofs.Common.{◌≡◌, inl, inr, ℕ, ◌%◌, ◌<◌, ◌≤◌, List, length, get_or, eqb, Result, Ok, Err, MatchResult, sym, ◌∙◌, arith}
 use Rattle.std.specs.List.{Contains, list_any}
 use Rattle.std.specs.Result.{is_ok}
 use Rattle.std.proofs.lemmas.Bool.{cases_lt, eqb-true, false_from_ne_true}

@@ -1,10 +1,10 @@
 -- The standard certificate of a channel is a certificate, and the channel accepts it.
-use Rattle.std.proofs.Common.{◌≡◌, ◌⊎◌, inl, inr, ℕ, zero, suc, ◌+◌, ◌-◌, ◌*◌, ◌%◌, ◌<◌, ◌≤◌, Bool, true, false, cond, List, [], ◌∷◌, ◌++◌, length, map, get_or, eqb, refl, sym, ap, ◌∙◌, subst, arith}
-use Rattle.std.specs.List.{Contains, list_any, range_with_len}
+use Rattle.std.proofs.Common.{◌≡◌, ◌⊎◌, inl, inr, ℕ, zero, suc, ◌+◌, ◌-◌, ◌*◌, ◌%◌, ◌<◌, ◌≤◌, Bool, true, false, cond, List, [], ◌∷◌, ◌++◌, eqb, refl, sym, ap, ◌∙◌, subst, arith}
+use Rattle.std.specs.List.{Contains, range_with_len}
 use Rattle.std.proofs.Math.ListN.{replicate}
 use Rattle.std.proofs.Math.Nat.{mod-eq_of_lt, mul-add-mod_self_left}
 use Rattle.std.proofs.lemmas.Bool.{cases_lt, eqb-true}
-use Rattle.std.proofs.lemmas.List.{get_or-append_right, get_or_append_left, get_or-replicate, length-append, length-replicate}
+use Rattle.std.proofs.lemmas.List.{get_or-append_right, get_or_append_left, get_or-replicate, length-replicate}
 use Rattle.std.proofs.lemmas.List.Folds.{sum_by-replicate}
 use Rattle.std.proofs.lemmas.List.FromFn.{length-range_with_len, get_or-range_with_len, length-map-range_with_len, get_or-map-range_with_len}
 use Rattle.std.proofs.lemmas.List.Sums.{sum_by-append}
@@ -12,7 +12,7 @@ use Rattle.std.proofs.lemmas.Map.Views.{Contains-from_any}
 use Rattle.sc_channel.specs.Channel.{ChannelNumbers, IsOrdered, IsChannel}
 use Rattle.sc_channel.specs.Certificate.{IsCertificate, IsAccepted, is_lost, stretch}
 use Rattle.sc_channel.specs.Flags.{IsSet, set_count}
-use Rattle.sc_channel.specs.Loss.{IsFine, few, close, IsAdmissible}
+use Rattle.sc_channel.specs.Loss.{IsFine, few, close}
 use Rattle.sc_channel.proofs.FineLaws.{IsFine-part}
 use Rattle.sc_channel.proofs.SetCountSteps.{IsSet-in_range, set_count-fewer}
 use Rattle.sc_channel.proofs.SpanSteps.{span-le}
@@ -59,16 +59,18 @@ lost_in_bursts channel q i o below set =
     let within : i < channel.t + 1 =
     omega (arith, IsSet-in_range (stretch channel (standard_certificate channel) q) i set, length-map-range_with_len lost q (channel.t + 1)) in
     let here : lost (q + i) ≡ true = sym (get_or-map-range_with_len lost q (channel.t + 1) i (q + i) false within refl) ∙ set in
-    let residue : (q + i) % p < channel.b = lost_residue channel (q + i) here in
-    (within, elim (cases_lt (q + i) p) [
-      | inl first ↦ let is : (q + i) % p ≡ q + i = mod-eq_of_lt first in inl (omega arith)
-      | inr second ↦
-          let more = q + i - p in
-          let less : more < p = omega (arith, o.count_in_span) in
-          let split : q + i ≡ p * 1 + more = omega arith in
-          let is : (q + i) % p ≡ more = ap (λ (s : ℕ). s % p) split ∙ mul-add-mod_self_left p 1 more ∙ mod-eq_of_lt less in
-          inr (second, omega arith)
-    ])
+    let residue : (q + i) % p < channel.b = lost_residue channel (q + i) here in (
+      within,
+      elim (cases_lt (q + i) p) [
+        | inl first ↦ let is : (q + i) % p ≡ q + i = mod-eq_of_lt first in inl (omega arith)
+        | inr second ↦
+            let more = q + i - p in
+            let less : more < p = omega (arith, o.count_in_span) in
+            let split : q + i ≡ p * 1 + more = omega arith in
+            let is : (q + i) % p ≡ more = ap (λ (s : ℕ). s % p) split ∙ mul-add-mod_self_left p 1 more ∙ mod-eq_of_lt less in
+            inr (second, omega arith)
+      ],
+    )
 
 -- x set flags, y unset ones, and z set ones
 ends : ℕ → ℕ → ℕ → List Bool

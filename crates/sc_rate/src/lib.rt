@@ -10,3 +10,6 @@ pub use laws::{certificate_bounds_rate, standard_is_accepted};
 pub use make_standard::{standard, standard_numbers};
 pub use rate::{Rate, compare};
 pub use residue::first_bad_residue;
+
+#[cfg(test)]
+mod tests;

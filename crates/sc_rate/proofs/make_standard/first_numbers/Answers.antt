@@ -1,4 +1,4 @@
-use Rattle.std.proofs.Common.{ℕ, List, [], ◌∷◌, ◌++◌, sym, ap, ◌∙◌, zero-add}
+use Rattle.std.proofs.Common.{ℕ, List, [], ◌∷◌, ◌++◌, sym, ap, ◌∙◌}
 use Rattle.sc_rate.proofs.StandardSteps.{range_more}
 use Rattle.sc_rate.proofs.make_standard.first_numbers.Goals as goal
 

@@ -1,6 +1,5 @@
-use Rattle.std.proofs.Common.{◌≡◌, List, ℕ, Option, Some, IfSome, sym, ap₂, ◌∙◌, subst}
-use Rattle.sc_channel.specs.Certificate.{CertificateNumbers, IsAccepted}
-use Rattle.sc_rate.specs.Standard.{standard_certificate}
+use Rattle.std.proofs.Common.{◌≡◌, Option, IfSome, subst}
+use Rattle.sc_channel.specs.Certificate.{CertificateNumbers}
 use Rattle.sc_rate.proofs.StandardSteps.{standard-IsCertificate, standard-IsAccepted}
 use Rattle.sc_rate.proofs.make_standard.standard.Goals as goal
 

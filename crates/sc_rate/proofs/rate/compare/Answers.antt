@@ -1,4 +1,4 @@
-use Rattle.std.proofs.Common.{◌≤◌, length, sym, arith}
+use Rattle.std.proofs.Common.{◌≤◌, length}
 use Rattle.sc_rate.proofs.KeptSteps.{length-lost}
 use Rattle.sc_rate.proofs.rate.compare.Goals as goal
 

@@ -1,6 +1,4 @@
-use Rattle.std.proofs.Common.{ℕ, ◌%◌, List, Result, subst, sym, ◌∙◌}
-use Rattle.std.specs.List.Sorted.{IsBinarySearchResult}
-use Rattle.std.specs.Ordering.{nat_cmp}
+use Rattle.std.proofs.Common.{◌∙◌}
 use Rattle.sc_rate.proofs.ResidueSteps.{search-is_lost}
 use Rattle.sc_rate.proofs.residue.is_lost.Goals as goal
 
