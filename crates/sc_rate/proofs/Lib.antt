@@ -12,3 +12,4 @@ pub mod DeadlineSteps
 pub mod BoundSteps
 pub mod StandardSteps
 pub mod ResidueSteps
+pub mod ByteCodeSteps

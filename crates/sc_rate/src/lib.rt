@@ -6,7 +6,9 @@ mod make_standard;
 mod rate;
 mod residue;
 
-pub use laws::{certificate_bounds_rate, standard_is_accepted};
+pub use laws::{
+    accepted_certificates_bound_byte_codes, certificate_bounds_rate, standard_is_accepted,
+};
 pub use make_standard::{standard, standard_numbers};
 pub use rate::{Rate, compare};
 pub use residue::first_bad_residue;
