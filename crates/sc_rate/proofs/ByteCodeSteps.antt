@@ -1,22 +1,21 @@
 -- A byte code is a table code at every horizon: a block of k bytes is a number below 256 ^ k, a slot of k + r bytes one below
 -- 256 ^ (k + r), and a slot knows no later block. What one meets the other meets, so the bound holds for byte codes.
-use Rattle.std.proofs.Common.{◌≡◌, ℕ, zero, suc, ◌+◌, ◌-◌, ◌*◌, ◌^◌, ◌<◌, ◌≤◌, Bool, true, false, List, [], ◌∷◌, ◌++◌, length, map, get_or, take, drop, All, refl, sym, ap, ap₂, ◌∙◌, subst, arith}
+use Rattle.std.proofs.Common.{◌≡◌, ℕ, zero, suc, ◌+◌, ◌-◌, ◌*◌, ◌^◌, ◌<◌, ◌≤◌, true, false, List, [], ◌∷◌, ◌++◌, length, map, get_or, take, drop, All, refl, sym, ap, ap₂, ◌∙◌, subst, arith}
 use Rattle.std.proofs.Math.Seq.{take-append_seam, drop-append_seam}
 use Rattle.std.proofs.lemmas.List.{get_or-map, get_or-take, get_or_default, length-append, length-map, length-take-le, take-map}
-use Rattle.std.proofs.lemmas.List.Elements.{All-append, All-from_get_or}
+use Rattle.std.proofs.lemmas.List.Elements.{All-append}
 use Rattle.sc_field.specs.Gf256.{gf256_product}
 use Rattle.sc_field.specs.Laws.Gf256Laws.{gf256_field, gf256_action}
 use Rattle.sc_matrix.specs.Module.{IsByte}
 use Rattle.sc_channel.specs.Channel.{ChannelNumbers}
 use Rattle.sc_channel.specs.Certificate.{CertificateNumbers, IsCertificate, IsAccepted}
-use Rattle.sc_channel.specs.Loss.{IsAdmissible}
 use Rattle.sc_code.specs.Code.{Code, IsCode}
 use Rattle.sc_code.specs.Stream.{IsBlock, IsStream, block_at}
 use Rattle.sc_code.specs.Parity.{parity}
-use Rattle.sc_code.specs.Determined.{IsKept, IsSameSlot, Meets}
+use Rattle.sc_code.specs.Determined.{IsSameSlot, Meets}
 use Rattle.sc_code.proofs.ColumnLaws.{same_block_from_bytes, parity-same}
 use Rattle.sc_code.proofs.StreamLaws.{IsBlock-parity}
-use Rattle.sc_rate.specs.TableCode.{AreSymbols, IsTable, sent, ArriveAlike, IsNumberDetermined, TableMeets}
+use Rattle.sc_rate.specs.TableCode.{AreSymbols, IsTable, sent, TableMeets}
 use Rattle.sc_rate.specs.Rate.{kept_count}
 use Rattle.sc_rate.proofs.WordSteps.{digits, number, length-digits, AreSymbols-digits, number-digits, number-lt, same_from_number}
 use Rattle.sc_rate.proofs.BoundSteps.{byte_rate_bounded}

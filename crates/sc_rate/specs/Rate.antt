@@ -1,6 +1,6 @@
 -- The bound of a certificate on the rate of causal codes, of this project.
-use Rattle.std.specs.Prelude.{ℕ, ◌+◌, ◌-◌, ◌*◌, ◌^◌, ◌≤◌, List, length}
-use Rattle.sc_channel.specs.Channel.{ChannelNumbers}
+use Rattle.std.specs.Prelude.{◌≡◌, ℕ, ◌+◌, ◌-◌, ◌*◌, ◌^◌, ◌≤◌, List, length}
+use Rattle.sc_channel.specs.Channel.{ChannelNumbers, IsChannel}
 use Rattle.sc_channel.specs.Certificate.{CertificateNumbers, IsCertificate, IsAccepted}
 use Rattle.sc_rate.specs.TableCode.{IsTable, TableMeets}
 
@@ -25,3 +25,16 @@ BoundsByteRate = (channel : ChannelNumbers) (certificate : CertificateNumbers) (
     → IsTable (256 ^ k) (256 ^ n) horizon table → TableMeets channel (256 ^ k) horizon table
     → certificate.period * (256 ^ n) ^ (kept_count certificate + channel.t) + channel.t ≤ horizon
     → k * certificate.period ≤ kept_count certificate * n
+
+-- the premises of the bound hold, and its two sides are equal
+pub record Attains (a b horizon : ℕ) (channel : ChannelNumbers) (certificate : CertificateNumbers) (table : List ℕ → ℕ) : Type 0 where
+  pub is_channel : IsChannel channel
+  pub is_certificate : IsCertificate certificate
+  pub accepted : IsAccepted channel certificate
+  pub is_table : IsTable a b horizon table
+  pub meets : TableMeets channel a horizon table
+  pub equal : a ^ certificate.period ≡ b ^ kept_count certificate
+
+-- So the bound isn't empty: whatever the symbols in and the horizon, some table attains it.
+abbrev pub BoundIsAttained : Type 0
+BoundIsAttained = (a horizon : ℕ) → (channel : ChannelNumbers) × ((certificate : CertificateNumbers) × ((table : List ℕ → ℕ) × Attains a (a * a) horizon channel certificate table))

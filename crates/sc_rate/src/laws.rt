@@ -7,15 +7,17 @@ ghost use Rattle.sc_channel.specs.Channel.{ChannelNumbers, IsChannel};
 ghost use Rattle.sc_channel.specs.Certificate.{CertificateNumbers, IsCertificate, IsAccepted};
 ghost use Rattle.sc_code.specs.Code.{Code as CodeOf, IsCode};
 ghost use Rattle.sc_code.specs.Determined.{Meets};
-ghost use Rattle.sc_rate.specs.Rate.{BoundsRate, BoundsByteRate, kept_count};
+ghost use Rattle.sc_rate.specs.Rate.{BoundsRate, BoundsByteRate, BoundIsAttained, kept_count};
 ghost use Rattle.sc_rate.specs.Standard.{standard_certificate};
 
 /// An accepted certificate bounds the rate of every causal code that meets the channel, whatever the code is made of: with
 /// `a` numbers for a slot's source symbol and `b` for what is sent in it, the `a ^ P` ways of a period's numbers are no more
-/// than the `b ^ (P - l)` ways of its kept slots. Where these are `k` and `n` bytes, `k * P <= (P - l) * n`.
+/// than the `b ^ (P - l)` ways of its kept slots. Where these are `k` and `n` bytes, `k * P <= (P - l) * n`. For each `a` some code attains the
+/// bound, on the channel in which of two slots in a row at most one is lost.
 pub fn certificate_bounds_rate()
     ensures symbols { BoundsRate }
     ensures bytes { BoundsByteRate }
+    ensures attained { BoundIsAttained }
 {}
 
 /// The standard certificate of a channel is a certificate, and the channel accepts it.

@@ -1,6 +1,10 @@
 //! The rate of a code beside the bound of a certificate.
 
-ghost use Rattle.std.specs.Prelude.{◌≡◌, ◌↔◌, ◌+◌, ◌*◌, ◌<◌};
+ghost use Rattle.std.specs.Prelude.{◌≡◌, ◌≢◌, ◌↔◌, ◌+◌, ◌*◌, ◌<◌};
+ghost use Rattle.sc_field.specs.Gf256.{gf256_product};
+ghost use Rattle.sc_channel.specs.Channel.{ChannelNumbers};
+ghost use Rattle.sc_channel.specs.Certificate.{IsAccepted};
+ghost use Rattle.sc_code.specs.Determined.{Meets};
 ghost use Rattle.sc_rate.specs.Rate.{kept_count};
 ghost use Rattle.sc_rate.specs.declared.rate.Rate.TheVariants.{Below, Equal, Above};
 
@@ -21,11 +25,12 @@ pub enum Rate {
 
 /// How the rate of a code, `k` symbols of a block out of the `k + r` that are sent in a slot, stands to the bound of a
 /// certificate, its kept slots out of its period: as `k * P` to `(P - l) * (k + r)`, for the period `P` and `l` lost residues.
-/// It takes no memory.
+/// `Above` never comes where the code meets a channel that accepts the certificate. It takes no memory.
 pub fn compare(code: &ByteCode, cert: &Certificate) -> Rate
     ensures below { (result ≡ Below) ↔ (code.now.k * cert.now.period < kept_count cert.now * (code.now.k + code.now.r)) }
     ensures equal { (result ≡ Equal) ↔ (code.now.k * cert.now.period ≡ kept_count cert.now * (code.now.k + code.now.r)) }
     ensures above { (result ≡ Above) ↔ (kept_count cert.now * (code.now.k + code.now.r) < code.now.k * cert.now.period) }
+    ensures bounded { (channel : ChannelNumbers) → Meets 0 gf256_product code.now channel → IsAccepted channel cert.now → result ≢ Above }
 {
     let period = cert.period() as usize;
     let kept = period - cert.lost().len();
