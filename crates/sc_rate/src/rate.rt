@@ -6,6 +6,7 @@ ghost use Rattle.sc_channel.specs.Channel.{ChannelNumbers};
 ghost use Rattle.sc_channel.specs.Certificate.{IsAccepted};
 ghost use Rattle.sc_code.specs.Determined.{Meets};
 ghost use Rattle.sc_rate.specs.Rate.{kept_count};
+ghost use Rattle.sc_rate.specs.Compared.{beside, compared};
 ghost use Rattle.sc_rate.specs.declared.rate.Rate.TheVariants.{Below, Equal, Above};
 
 use sc_channel::Certificate;
@@ -27,6 +28,7 @@ pub enum Rate {
 /// certificate, its kept slots out of its period: as `k * P` to `(P - l) * (k + r)`, for the period `P` and `l` lost residues.
 /// `Above` never comes where the code meets a channel that accepts the certificate. It takes no memory.
 pub fn compare(code: &ByteCode, cert: &Certificate) -> Rate
+    ensures value { result ≡ compared code.now cert.now }
     ensures below { (result ≡ Below) ↔ (code.now.k * cert.now.period < kept_count cert.now * (code.now.k + code.now.r)) }
     ensures equal { (result ≡ Equal) ↔ (code.now.k * cert.now.period ≡ kept_count cert.now * (code.now.k + code.now.r)) }
     ensures above { (result ≡ Above) ↔ (kept_count cert.now * (code.now.k + code.now.r) < code.now.k * cert.now.period) }
@@ -39,6 +41,7 @@ pub fn compare(code: &ByteCode, cert: &Certificate) -> Rate
 
 /// How a rate stands to a bound, over one denominator.
 fn rate_of(rate: usize, bound: usize) -> Rate
+    ensures value { result ≡ beside rate bound }
     ensures below { (result ≡ Below) ↔ (rate < bound) }
     ensures equal { (result ≡ Equal) ↔ (rate ≡ bound) }
     ensures above { (result ≡ Above) ↔ (bound < rate) }

@@ -3,7 +3,7 @@
 ghost use Rattle.std.specs.Prelude.{◌≡◌, ◌↔◌, ◌+◌, ◌<◌, IsNone, IsTrue, MatchOption, take};
 ghost use Rattle.sc_channel.specs.Certificate.{IsAccepted, is_lost, stretch};
 ghost use Rattle.sc_channel.specs.Loss.{IsAdmissible};
-ghost use Rattle.sc_rate.specs.Residue.{IsFirstBadResidue};
+ghost use Rattle.sc_rate.specs.Residue.{IsFirstBadResidue, bad_residue};
 
 use sc_channel::{Certificate, Channel, MAX_DEADLINE, first_bad_window};
 
@@ -13,6 +13,7 @@ const MAX_STRETCH: usize = MAX_DEADLINE as usize + 1;
 /// The least residue from which the flags up to the deadline, as many as the channel's `t` and one more, aren't admissible,
 /// and `None` exactly where the channel accepts the certificate. It takes no memory.
 pub fn first_bad_residue(cert: &Certificate, channel: &Channel) -> Option<u32>
+    ensures value { result ≡ bad_residue channel.now cert.now }
     ensures answer { MatchOption result (IsAccepted channel.now cert.now) (IsFirstBadResidue channel.now cert.now) }
     ensures accepted { IsNone result ↔ IsAccepted channel.now cert.now }
 {
