@@ -1,5 +1,7 @@
 //! Residues beside those of a script in another language, the standard certificate, and rates beside bounds.
 
+ghost use Rattle.std.specs.Prelude.{◌<◌};
+
 use super::*;
 use sc_channel::{Certificate, Channel};
 use sc_code::{ByteCode, Code};
