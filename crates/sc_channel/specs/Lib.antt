@@ -1,3 +1,4 @@
+pub mod Certificate
 pub mod Channel
 pub mod Flags
 pub mod Loss

@@ -1,7 +1,6 @@
 -- A value and the code file that it is.
-use Rattle.std.proofs.Common.{◌≡◌, ◌≢◌, ℕ, ◌<◌, Bool, true, false, not, List, [], ◌∷◌, Option, Some, None, is_none, unwrap_or, map, refl, sym, ap, ap₂, ◌∙◌}
-use Rattle.std.specs.Bool.{⊤}
-use Rattle.std.proofs.lemmas.Bool.{not-false, true≢false}
+use Rattle.std.proofs.Common.{◌≡◌, ℕ, ◌<◌, true, false, not, List, Option, Some, None, is_none, unwrap_or, map, refl, sym, ap, ap₂, ◌∙◌}
+use Rattle.std.proofs.lemmas.Bool.{not-false}
 use Rattle.std.proofs.lemmas.Option.{none-some, same_Some}
 use Rattle.serde_json.specs.Data.{Data, null, boolean, number, string, array, object}
 use Rattle.serde_json.proofs.OnLiterals.{serde_json_on_literals}
@@ -11,13 +10,14 @@ use Rattle.sc_channel.proofs.ChannelLaws.{is_channel-to, is_channel-from}
 use Rattle.sc_code.specs.Code.{Code, IsCode}
 use Rattle.sc_code.specs.declared.code.CodeFile.{CodeFile}
 use Rattle.sc_codefile.specs.declared.fault.FileFault.{FileFault}
-use Rattle.sc_codefile.specs.declared.fault.FileFault.TheVariants.{NotJson, Shape, Range, Memory}
+use Rattle.sc_codefile.specs.declared.fault.FileFault.TheVariants.{Memory}
 use Rattle.sc_codefile.specs.declared.numbers.CodeNumbers.{CodeNumbers}
-use Rattle.sc_codefile.specs.Value.{IsValueOf, has_other_key}
-use Rattle.sc_codefile.specs.Fault.{first_of, fails, IsFirstFault, IsRefusedFor}
-use Rattle.sc_codefile.specs.CodeFile.{code_keys, is_object, channel_at, k_at, lags_at, r_at, is_k, are_lags, is_r, rows_of, code_faults, IsCodeFile, IsCodeFileText}
+use Rattle.sc_codefile.specs.Value.{is_object, has_other_key}
+use Rattle.sc_codefile.specs.Fault.{first_of, fails, IsRefusedFor}
+use Rattle.sc_codefile.specs.CodeFile.{code_keys, channel_at, k_at, lags_at, r_at, is_k, are_lags, is_r, rows_of, code_faults, IsCodeFile, IsCodeFileText}
 use Rattle.sc_codefile.specs.CodeText.{code_value}
 use Rattle.sc_codefile.specs.Numbers.{HasNumbers, with_cols, HasFile}
+use Rattle.sc_codefile.proofs.FaultSteps.{none_from_clear, clear_from_none, is_some_value, refused-clear}
 use Rattle.sc_codefile.proofs.ValueSteps.{lags-array}
 use Rattle.sc_codefile.proofs.CodeSteps.{k_in, lags_in, r_in, is_code-from, rows_of-with_cols, with_cols-rows_of}
 
@@ -75,24 +75,6 @@ object_from_channel (number n) channel e = absurd (none-some channel e)
 object_from_channel (string s) channel e = absurd (none-some channel e)
 object_from_channel (array ds) channel e = absurd (none-some channel e)
 object_from_channel (object ms) channel e = refl
-
--- no fault of a table is there
-abbrev AreClear : List (Bool × FileFault) → Type 0
-AreClear [] = ⊤
-AreClear (row ∷ rows) = (row.0 ≡ false) × AreClear rows
-
-none_from_clear : (rows : List (Bool × FileFault)) → AreClear rows → first_of rows ≡ None
-none_from_clear [] clear = refl
-none_from_clear ((b, fault) ∷ rows) clear = rw clear.0 (none_from_clear rows clear.1)
-
-clear_from_none : (rows : List (Bool × FileFault)) → first_of rows ≡ None → AreClear rows
-clear_from_none [] none = tt
-clear_from_none ((true, fault) ∷ rows) none = absurd (none-some fault (sym none))
-clear_from_none ((false, fault) ∷ rows) none = (refl, clear_from_none rows none)
-
-is_some_value : {A : Type 0} (o : Option A) → is_none o ≡ false → (x : A) × (o ≡ Some x)
-is_some_value None e = absurd (true≢false e)
-is_some_value (Some x) e = (x, refl)
 
 pub no_fault-file : (d : Data) (file : CodeFile) → IsCodeFile d file → first_of (code_faults d) ≡ None
 no_fault-file d file is =
@@ -171,36 +153,6 @@ some_file-no_fault d none =
 
 -- ---- bytes have one answer
 
-same_value : (text : List ℕ) (d e : Data) → IsValueOf text d → IsValueOf text e → d ≡ e
-same_value text d e is too = same_Some _ _ (sym is.is_read ∙ too.is_read)
-
-file_or_fault : (text : List ℕ) (file : CodeFile) (fault : FileFault) → IsCodeFileText text file → IsFirstFault code_faults text fault → ⊥
-file_or_fault text file fault is faulty =
-    none-some fault (sym (no_fault-file is.value file is.is_file)
-    ∙ ap (λ d. first_of (code_faults d)) (same_value text is.value faulty.value is.is_value faulty.is_value) ∙ faulty.first)
-
 pub refused-file : (text : List ℕ) (file : CodeFile) (fault : FileFault) → IsCodeFileText text file → IsRefusedFor code_faults text fault → fault ≡ Memory
-refused-file text file NotJson is refused = absurd (refused is.value is.is_value)
-refused-file text file (Shape key) is refused = absurd (file_or_fault text file (Shape key) is refused)
-refused-file text file (Range key) is refused = absurd (file_or_fault text file (Range key) is refused)
-refused-file text file Memory is refused = refl
-
-same_fault : (text : List ℕ) (fault other : FileFault) → IsFirstFault code_faults text fault → IsFirstFault code_faults text other → fault ≡ other
-same_fault text fault other is too =
-    same_Some _ _ (sym is.first ∙ ap (λ d. first_of (code_faults d)) (same_value text is.value too.value is.is_value too.is_value) ∙ too.first)
-
-pub same_refusal : (text : List ℕ) (fault other : FileFault) → IsRefusedFor code_faults text fault → IsRefusedFor code_faults text other
-    → fault ≢ Memory → other ≢ Memory → fault ≡ other
-same_refusal text Memory other is too m n = absurd (m refl)
-same_refusal text NotJson NotJson is too m n = refl
-same_refusal text NotJson (Shape key) is too m n = absurd (is too.value too.is_value)
-same_refusal text NotJson (Range key) is too m n = absurd (is too.value too.is_value)
-same_refusal text NotJson Memory is too m n = absurd (n refl)
-same_refusal text (Shape key) NotJson is too m n = absurd (too is.value is.is_value)
-same_refusal text (Shape key) (Shape more) is too m n = same_fault text (Shape key) (Shape more) is too
-same_refusal text (Shape key) (Range more) is too m n = same_fault text (Shape key) (Range more) is too
-same_refusal text (Shape key) Memory is too m n = absurd (n refl)
-same_refusal text (Range key) NotJson is too m n = absurd (too is.value is.is_value)
-same_refusal text (Range key) (Shape more) is too m n = same_fault text (Range key) (Shape more) is too
-same_refusal text (Range key) (Range more) is too m n = same_fault text (Range key) (Range more) is too
-same_refusal text (Range key) Memory is too m n = absurd (n refl)
+refused-file text file fault is refused =
+    refused-clear code_faults text fault is.value is.is_value (no_fault-file is.value file is.is_file) refused

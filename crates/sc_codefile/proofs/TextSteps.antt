@@ -34,7 +34,7 @@ module _ {A : Type 0} (value : A → Data) where
   no_float-array each [] = refl
   no_float-array each (x ∷ xs) = rw (each x) (no_float-array each xs)
 
-numbers_text : (xs : List ℕ) → compact_text (array_of number_value xs) ≡ list_text decimal xs
+pub numbers_text : (xs : List ℕ) → compact_text (array_of number_value xs) ≡ list_text decimal xs
 numbers_text = list_text-array number_value decimal (λ n. refl)
 
 rows_text : (xs : List (List ℕ)) → compact_text (array_of (array_of number_value) xs) ≡ list_text (list_text decimal) xs
@@ -56,7 +56,7 @@ code_text-value file =
     (list_text decimal (four_numbers file.channel)) (list_text (list_text (list_text decimal)) (rows_of file.code.lags))
     (numbers_text (four_numbers file.channel)) (lags_text (rows_of file.code.lags))
 
-numbers_depth : (xs : List ℕ) → depth (array_of number_value xs) ≤ 1
+pub numbers_depth : (xs : List ℕ) → depth (array_of number_value xs) ≤ 1
 numbers_depth = depth-array number_value 0 (λ n. omega arith)
 
 rows_depth : (xs : List (List ℕ)) → depth (array_of (array_of number_value) xs) ≤ 2
@@ -68,7 +68,7 @@ lags_depth = depth-array (array_of (array_of number_value)) 2 rows_depth
 pub depth-value : (file : CodeFile) → depth (code_value file) ≤ 127
 depth-value file = omega (arith, numbers_depth (four_numbers file.channel), lags_depth (rows_of file.code.lags))
 
-numbers_no_float : (xs : List ℕ) → has_float (array_of number_value xs) ≡ false
+pub numbers_no_float : (xs : List ℕ) → has_float (array_of number_value xs) ≡ false
 numbers_no_float = no_float-array number_value (λ n. refl)
 
 rows_no_float : (xs : List (List ℕ)) → has_float (array_of (array_of number_value) xs) ≡ false

@@ -15,7 +15,7 @@ module _ {A : Type 0} (shape : Data → Option A) where
 whole_number-value : (n : ℕ) → whole_number (number_value n) ≡ Some n
 whole_number-value n = refl
 
-numbers-array : (xs : List ℕ) → list_of whole_number (array_of number_value xs) ≡ Some xs
+pub numbers-array : (xs : List ℕ) → list_of whole_number (array_of number_value xs) ≡ Some xs
 numbers-array = list_of-array whole_number number_value whole_number-value
 
 rows-array : (xs : List (List ℕ)) → list_of (list_of whole_number) (array_of (array_of number_value) xs) ≡ Some xs

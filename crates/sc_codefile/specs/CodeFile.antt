@@ -1,8 +1,8 @@
 -- Code files: what a value has at each key, and the faults in their order.
-use Rattle.std.specs.Prelude.{◌≡◌, ℕ, ◌+◌, ◌<◌, ◌&&◌, ◌==◌, List, [], ◌∷◌, Bool, false, not, Option, Some, None, is_some, is_none, unwrap_or, option_and_then, map, length, nat_le, codes}
+use Rattle.std.specs.Prelude.{◌≡◌, ℕ, ◌+◌, ◌<◌, ◌&&◌, ◌==◌, List, [], ◌∷◌, Bool, false, not, Option, Some, None, is_none, unwrap_or, option_and_then, map, length, nat_le, codes}
 use Rattle.std.specs.List.{list_all}
 use Rattle.serde_json.specs.Data.{Data}
-use Rattle.serde_json.specs.Find.{as_object, get}
+use Rattle.serde_json.specs.Find.{get}
 use Rattle.sc_matrix.specs.Matrix.{Matrix}
 use Rattle.sc_channel.specs.Channel.{ChannelNumbers, IsChannel, is_channel}
 use Rattle.sc_code.specs.Code.{IsCode}
@@ -10,7 +10,7 @@ use Rattle.sc_code.specs.declared.code.CodeFile.{CodeFile}
 use Rattle.sc_codefile.specs.declared.fault.Key.TheVariants.{Whole, Other, Channel, K, Lags, R}
 use Rattle.sc_codefile.specs.declared.fault.FileFault.{FileFault}
 use Rattle.sc_codefile.specs.declared.fault.FileFault.TheVariants.{Shape, Range}
-use Rattle.sc_codefile.specs.Value.{IsValueOf, has_other_key, whole_number, list_of}
+use Rattle.sc_codefile.specs.Value.{IsValueOf, is_object, has_other_key, whole_number, list_of}
 use Rattle.sc_codefile.specs.Fault.{fails}
 
 -- the keys of a code file
@@ -23,9 +23,6 @@ code_keys = codes "channel" ∷ codes "k" ∷ codes "lags" ∷ codes "r" ∷ []
 abbrev pub four : List ℕ → Option ChannelNumbers
 four (w ∷ b ∷ n ∷ t ∷ []) = Some (record { w = w; b = b; n = n; t = t })
 four _ = None
-
-unfoldable pub is_object : Data → Bool
-is_object d = is_some (as_object d)
 
 -- a list of four whole numbers at `channel`
 unfoldable pub channel_at : Data → Option ChannelNumbers

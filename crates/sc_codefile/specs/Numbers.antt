@@ -6,17 +6,22 @@ use Rattle.sc_channel.specs.Channel.{IsChannel, is_channel}
 use Rattle.sc_code.specs.Code.{IsCode}
 use Rattle.sc_code.specs.declared.code.CodeFile.{CodeFile}
 use Rattle.sc_codefile.specs.declared.fault.Key.{Key}
-use Rattle.sc_codefile.specs.declared.fault.Key.TheVariants.{Channel, K, Lags, R}
+use Rattle.sc_codefile.specs.declared.fault.Key.TheVariants.{Whole, Other, Channel, K, Lags, R}
 use Rattle.sc_codefile.specs.declared.fault.FileFault.{FileFault}
 use Rattle.sc_codefile.specs.declared.fault.FileFault.TheVariants.{Shape, Range, Memory}
 use Rattle.sc_codefile.specs.declared.numbers.CodeNumbers.{CodeNumbers}
-use Rattle.sc_codefile.specs.Value.{has_other_key}
-use Rattle.sc_codefile.specs.CodeFile.{code_keys, is_object, channel_at, k_at, lags_at, r_at, is_k, are_lags, is_r}
+use Rattle.sc_codefile.specs.Value.{is_object, has_other_key}
+use Rattle.sc_codefile.specs.Fault.{first_of}
+use Rattle.sc_codefile.specs.CodeFile.{code_keys, channel_at, k_at, lags_at, r_at, is_k, are_lags, is_r}
 
 -- what was found at a key, or a fault of its shape
 abbrev pub IsFound : {A : Type 0} → Option A → Key → Result A FileFault → Type 0
 IsFound found key (Ok x) = found ≡ Some x
 IsFound found key (Err fault) = (fault ≡ Memory) ⊎ ((fault ≡ Shape key) × (found ≡ None))
+
+-- the value isn't an object, or it has a key that is none of these
+abbrev pub IsKeyFault : List (List ℕ) → Data → FileFault → Type 0
+IsKeyFault keys d fault = first_of ((not (is_object d), Shape Whole) ∷ (has_other_key keys d, Shape Other) ∷ []) ≡ Some fault
 
 -- the value is an object with these numbers at its keys, and no other key
 pub record HasNumbers (d : Data) (n : CodeNumbers) : Type 0 where

@@ -1,9 +1,9 @@
 -- What a JSON value has: the value that bytes are, its keys, whole numbers and lists.
-use Rattle.std.specs.Prelude.{◌≡◌, ℕ, List, [], ◌∷◌, Bool, not, Option, Some, IsUtf8, map, bytes_eq, option_map, option_and_then}
+use Rattle.std.specs.Prelude.{◌≡◌, ℕ, List, [], ◌∷◌, Bool, not, Option, Some, is_some, IsUtf8, map, bytes_eq, option_map, option_and_then}
 use Rattle.std.specs.List.{list_any}
 use Rattle.serde_json.specs.Data.{Data, number, array, object, unsigned, Items, no_items, item, Members, no_members, member}
 use Rattle.serde_json.specs.Read.{read}
-use Rattle.serde_json.specs.Find.{as_array, as_number, as_u64}
+use Rattle.serde_json.specs.Find.{as_object, as_array, as_number, as_u64}
 use Rattle.serde_json.specs.View.{items_of}
 
 -- The value that `serde_json` reads from the bytes. They have at most one.
@@ -23,6 +23,9 @@ member_keys (member k d ms) = k ∷ member_keys ms
 abbrev pub keys_of : Data → List (List ℕ)
 keys_of (object ms) = member_keys ms
 keys_of _ = []
+
+unfoldable pub is_object : Data → Bool
+is_object d = is_some (as_object d)
 
 -- a key is one of these
 abbrev pub is_among : List (List ℕ) → List ℕ → Bool

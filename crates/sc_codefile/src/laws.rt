@@ -2,10 +2,12 @@
 
 ghost use Rattle.std.specs.Prelude.{◌≡◌, ◌≢◌, ℕ, List, None};
 ghost use Rattle.serde_json.specs.Data.{Data};
+ghost use Rattle.sc_channel.specs.Certificate.{CertificateNumbers};
 ghost use Rattle.sc_code.specs.declared.code.CodeFile.{CodeFile};
 ghost use Rattle.sc_codefile.specs.Value.{IsValueOf};
 ghost use Rattle.sc_codefile.specs.Fault.{first_of, IsRefusedFor};
 ghost use Rattle.sc_codefile.specs.CodeFile.{IsCodeFile, IsCodeFileText, code_faults};
+ghost use Rattle.sc_codefile.specs.CertificateFile.{IsCertificateFile, IsCertificateText, certificate_faults};
 
 use crate::fault::FileFault;
 
@@ -18,4 +20,14 @@ pub fn one_code_file()
     ensures some_file { (d : Data) → first_of (code_faults d) ≡ None → (file : CodeFile) × IsCodeFile d file }
     ensures refused { (text : List ℕ) (file : CodeFile) (fault : FileFault) → IsCodeFileText text file → IsRefusedFor code_faults text fault → fault ≡ FileFault.Memory }
     ensures refusal { (text : List ℕ) (fault other : FileFault) → IsRefusedFor code_faults text fault → IsRefusedFor code_faults text other → fault ≢ FileFault.Memory → other ≢ FileFault.Memory → fault ≡ other }
+{}
+
+/// The same of certificates: a value is at most one certificate, and it is one exactly where it has no fault. Bytes that are a
+/// certificate are refused for want of memory alone, and other bytes for one fault beside it.
+pub fn one_certificate_file()
+    ensures certificate { (d : Data) (certificate other : CertificateNumbers) → IsCertificateFile d certificate → IsCertificateFile d other → certificate ≡ other }
+    ensures no_fault { (d : Data) (certificate : CertificateNumbers) → IsCertificateFile d certificate → first_of (certificate_faults d) ≡ None }
+    ensures some_certificate { (d : Data) → first_of (certificate_faults d) ≡ None → (certificate : CertificateNumbers) × IsCertificateFile d certificate }
+    ensures refused { (text : List ℕ) (certificate : CertificateNumbers) (fault : FileFault) → IsCertificateText text certificate → IsRefusedFor certificate_faults text fault → fault ≡ FileFault.Memory }
+    ensures refusal { (text : List ℕ) (fault other : FileFault) → IsRefusedFor certificate_faults text fault → IsRefusedFor certificate_faults text other → fault ≢ FileFault.Memory → other ≢ FileFault.Memory → fault ≡ other }
 {}

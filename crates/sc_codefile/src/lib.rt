@@ -1,6 +1,7 @@
 //! The project's JSON files: what bytes are such a file, why others aren't, and the text of one.
 #![tactic(auto)]
 
+mod certificate;
 mod fault;
 mod laws;
 mod lists;
@@ -11,7 +12,8 @@ mod read;
 #[cfg(test)]
 mod tests;
 
+pub use certificate::{print_certificate, read_certificate};
 pub use fault::{FileFault, Key};
-pub use laws::one_code_file;
+pub use laws::{one_certificate_file, one_code_file};
 pub use print::print_code;
 pub use read::read_code;

@@ -1,13 +1,13 @@
 //! The shapes of a code file: what a value has at each of its keys.
 
-ghost use Rattle.std.specs.Prelude.{◌≡◌, ◌⊎◌, not, true, false, Some, IfOk, IfErr, OnOk, option_and_then};
+ghost use Rattle.std.specs.Prelude.{◌≡◌, ◌⊎◌, not, true, false, Some, IfOk, IfErr, OnOk, option_and_then, map};
 ghost use Rattle.std.specs.List.{list_any};
 ghost use Rattle.serde_json.specs.Find.{get};
 ghost use Rattle.serde_json.specs.View.{view, members_view};
-ghost use Rattle.sc_codefile.specs.Value.{is_among, has_other_key, member_keys};
+ghost use Rattle.sc_codefile.specs.Value.{is_among, is_object, has_other_key, member_keys};
 ghost use Rattle.sc_codefile.specs.Fault.{first_of};
-ghost use Rattle.sc_codefile.specs.CodeFile.{code_keys, is_object, four, channel_at, k_at, lags_at, r_at, code_faults};
-ghost use Rattle.sc_codefile.specs.Numbers.{IsFound, HasNumbers};
+ghost use Rattle.sc_codefile.specs.CodeFile.{four, channel_at, k_at, lags_at, r_at, code_faults};
+ghost use Rattle.sc_codefile.specs.Numbers.{IsFound, IsKeyFault, HasNumbers};
 
 use crate::fault::{FileFault, Key};
 use crate::lists::{ListOf, Shape};
@@ -46,7 +46,7 @@ pub(crate) fn numbers_of(alloc: Global, value: &Value) -> Result<CodeNumbers, Fi
     ensures numbers { IfOk result (HasNumbers (view value.now)) }
     ensures fault { IfErr result (λ fault. (fault ≡ FileFault.Memory) ⊎ (first_of (code_faults (view value.now)) ≡ Some fault)) }
 {
-    check_keys(value)?;
+    check_keys(value, &CODE_KEYS)?;
     let channel = channel_at(alloc, value)?;
     let k = k_at(alloc, value)?;
     let lags = lags_at(alloc, value)?;
@@ -59,36 +59,45 @@ pub(crate) fn numbers_of(alloc: Global, value: &Value) -> Result<CodeNumbers, Fi
     })
 }
 
-/// Whether the value is an object with no key but those of a code file.
-#[tactic(auto, unfolding(crate::specs::CodeFile::is_object, crate::specs::Value::has_other_key))]
-fn check_keys(value: &Value) -> Result<(), FileFault>
-    ensures keys { OnOk result ((is_object (view value.now) ≡ true) × (has_other_key code_keys (view value.now) ≡ false)) }
-    ensures fault { IfErr result (λ fault. first_of (code_faults (view value.now)) ≡ Some fault) }
+/// The keys of a code file.
+const CODE_KEYS: [&str; 4] = ["channel", "k", "lags", "r"];
+
+/// Whether the value is an object with no key but these.
+#[tactic(auto, unfolding(crate::specs::Value::is_object, crate::specs::Value::has_other_key))]
+pub(crate) fn check_keys(value: &Value, keys: &[&str]) -> Result<(), FileFault>
+    ensures object { OnOk result (is_object (view value.now) ≡ true) }
+    ensures keys { OnOk result (has_other_key (map (λ key. key.now) keys.now) (view value.now) ≡ false) }
+    ensures fault { IfErr result (IsKeyFault (map (λ key. key.now) keys.now) (view value.now)) }
 {
     match value.as_object() {
         None => Err(FileFault::Shape(Key::Whole)),
-        Some(members) if has_other_key(members) => Err(FileFault::Shape(Key::Other)),
+        Some(members) if has_other_key(members, keys) => Err(FileFault::Shape(Key::Other)),
         Some(_) => Ok(()),
     }
 }
 
-/// Whether a member has a key that a code file doesn't have.
-fn has_other_key(members: &Map<String, Value>) -> bool
-    ensures { result ≡ list_any (λ k. not (is_among code_keys k)) (member_keys (members_view members.now.entries)) }
+/// Whether a member has a key that is none of these.
+fn has_other_key(members: &Map<String, Value>, keys: &[&str]) -> bool
+    ensures { result ≡ list_any (λ k. not (is_among (map (λ key. key.now) keys.now) k)) (member_keys (members_view members.now.entries)) }
 {
     for (key, _value) in members.iter() {
-        if !is_code_key(key.as_str()) {
+        if !is_among(keys, key.as_str()) {
             return true;
         }
     }
     false
 }
 
-/// Whether a code file has this key.
-fn is_code_key(key: &str) -> bool
-    ensures { result ≡ is_among code_keys key.now }
+/// Whether a key is one of these.
+fn is_among(keys: &[&str], key: &str) -> bool
+    ensures { result ≡ is_among (map (λ key. key.now) keys.now) key.now }
 {
-    key == "channel" || key == "k" || key == "lags" || key == "r"
+    for known in keys {
+        if key == *known {
+            return true;
+        }
+    }
+    false
 }
 
 /// The whole number at `k`.
@@ -140,7 +149,7 @@ fn four(numbers: &[u64]) -> Option<FourNumbers>
 }
 
 /// What the value has at a key, in the shape that is wanted there.
-fn found_at<T: Shape + Drop>(
+pub(crate) fn found_at<T: Shape + Drop>(
     alloc: Global,
     value: &Value,
     name: &str,

@@ -35,7 +35,7 @@ fn read_value(alloc: Global, text: &[u8]) -> Result<CodeFile, FileFault>
 }
 
 /// The value that the bytes are.
-fn value_of(alloc: Global, text: &[u8]) -> Result<Value, FileFault>
+pub(crate) fn value_of(alloc: Global, text: &[u8]) -> Result<Value, FileFault>
     ensures value { IfOk result (λ value. IsValueOf text.now (view value)) }
     ensures fault { IfErr result (λ fault. (fault ≡ FileFault.Memory) ⊎ ((fault ≡ FileFault.NotJson) × IsNotJson text.now)) }
 {

@@ -1,4 +1,4 @@
-//! Texts of code files beside what they are read as, and refusals in their order.
+//! Texts of code files and certificates beside what they are read as, and refusals in their order.
 
 use super::*;
 use sc_channel::Channel;
@@ -311,6 +311,117 @@ fn listed(alloc: Global, item: &str, count: usize) -> Result<String, Fail> {
     }
     text.push_str("]")?;
     Ok(text)
+}
+
+// The texts of certificates, and the first fault of other texts.
+#[test]
+fn certificates(rt: HostRuntime) -> Result<(), Fail> {
+    let table = [
+        ("{\"lost\":[0,1],\"period\":4}", None),
+        ("{\"lost\":[],\"period\":1}", None),
+        ("{\"lost\":[0,17,4095],\"period\":4096}", None),
+        ("", Some(FileFault::NotJson)),
+        ("{\"lost\":[0,1],\"period\":4}}", Some(FileFault::NotJson)),
+        ("[]", Some(FileFault::Shape(Key::Whole))),
+        (
+            "{\"lost\":[0,1],\"loss\":\"\",\"period\":4}",
+            Some(FileFault::Shape(Key::Other)),
+        ),
+        ("{\"channel\":1}", Some(FileFault::Shape(Key::Other))),
+        ("{}", Some(FileFault::Shape(Key::Lost))),
+        ("{\"period\":0}", Some(FileFault::Shape(Key::Lost))),
+        (
+            "{\"lost\":[0,1.0],\"period\":[]}",
+            Some(FileFault::Shape(Key::Lost)),
+        ),
+        (
+            "{\"lost\":[[0]],\"period\":4}",
+            Some(FileFault::Shape(Key::Lost)),
+        ),
+        (
+            "{\"lost\":0,\"period\":4}",
+            Some(FileFault::Shape(Key::Lost)),
+        ),
+        (
+            "{\"lost\":[-1],\"period\":4}",
+            Some(FileFault::Shape(Key::Lost)),
+        ),
+        ("{\"lost\":[1,0]}", Some(FileFault::Shape(Key::Period))),
+        (
+            "{\"lost\":[1,0],\"period\":\"4\"}",
+            Some(FileFault::Shape(Key::Period)),
+        ),
+        (
+            "{\"lost\":[1,0],\"period\":4e0}",
+            Some(FileFault::Shape(Key::Period)),
+        ),
+        (
+            "{\"lost\":[1,0],\"period\":0}",
+            Some(FileFault::Range(Key::Lost)),
+        ),
+        (
+            "{\"lost\":[1,1],\"period\":4}",
+            Some(FileFault::Range(Key::Lost)),
+        ),
+        (
+            "{\"lost\":[0,4],\"period\":4}",
+            Some(FileFault::Range(Key::Lost)),
+        ),
+        (
+            "{\"lost\":[0],\"period\":0}",
+            Some(FileFault::Range(Key::Lost)),
+        ),
+        (
+            "{\"lost\":[18446744073709551615],\"period\":18446744073709551615}",
+            Some(FileFault::Range(Key::Lost)),
+        ),
+        (
+            "{\"lost\":[4294967296],\"period\":4294967297}",
+            Some(FileFault::Range(Key::Period)),
+        ),
+        (
+            "{\"lost\":[],\"period\":0}",
+            Some(FileFault::Range(Key::Period)),
+        ),
+        (
+            "{\"lost\":[0,1],\"period\":4097}",
+            Some(FileFault::Range(Key::Period)),
+        ),
+        (
+            "{\"lost\":[0,1],\"period\":4294967300}",
+            Some(FileFault::Range(Key::Period)),
+        ),
+    ];
+    for (text, expected) in table {
+        match read_certificate(rt.alloc(), text.as_bytes()) {
+            Ok(cert) => {
+                let printed = print_certificate(rt.alloc(), &cert)?;
+                assert!(rt;
+                    expected.is_none() && printed.as_slice() == text.as_bytes(),
+                    "{text}"
+                );
+            }
+            Err(fault) => assert!(rt; expected == Some(fault), "{text}"),
+        }
+    }
+    Ok(())
+}
+
+// A certificate at the limits of its size, with white space and its keys the other way round.
+#[test]
+fn longest_certificate_reads_back(rt: HostRuntime) -> Result<(), Fail> {
+    let alloc = rt.alloc();
+    let mut text = String::from_str(alloc, "{ \"period\":4096,\n\"lost\":[0")?;
+    for residue in 1..4096u32 {
+        text.push_str(format!(in alloc; ", {residue}")?.as_str())?;
+    }
+    text.push_str("] }")?;
+    let cert = read_certificate(alloc, text.as_bytes())?;
+    assert!(rt; cert.period() == 4096 && cert.lost().len() == 4096);
+    let printed = print_certificate(alloc, &cert)?;
+    let again = read_certificate(alloc, &printed)?;
+    assert_eq!(rt; again.lost(), cert.lost());
+    Ok(())
 }
 
 #[test]

@@ -1,4 +1,6 @@
-use Rattle.sc_codefile.proofs.FileSteps.{same_file, no_fault-file, some_file-no_fault, refused-file, same_refusal}
+use Rattle.sc_codefile.proofs.FileSteps.{same_file, no_fault-file, some_file-no_fault, refused-file}
+use Rattle.sc_codefile.proofs.FaultSteps.{same_refusal}
+use Rattle.sc_codefile.specs.CodeFile.{code_faults}
 use Rattle.sc_codefile.proofs.laws.one_code_file.Goals as goal
 
 pub returns-clause-file : goal.returns-clause-file
@@ -14,4 +16,4 @@ pub returns-clause-refused : goal.returns-clause-refused
 returns-clause-refused c = refused-file
 
 pub returns-clause-refusal : goal.returns-clause-refusal
-returns-clause-refusal c = same_refusal
+returns-clause-refusal c = same_refusal code_faults
