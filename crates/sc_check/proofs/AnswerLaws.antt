@@ -7,7 +7,7 @@ use Rattle.std.proofs.lemmas.Bool.Decides.{nat_tests, eqb_tells}
 use Rattle.std.proofs.lemmas.Bool.{cases_lt, cases_Bool, and_parts, and_from}
 use Rattle.std.proofs.lemmas.List.{length-replicate, get_or-replicate, ext_get_or, take_at, take-append-drop, length-append, length-drop, map-id}
 use Rattle.std.proofs.Math.Seq.{drop-append_seam}
-use Rattle.std.proofs.lemmas.List.Elements.{All-replicate, All-append, All-nil}
+use Rattle.std.proofs.lemmas.List.Elements.{All-replicate, All-append, All-nil, All-weaker}
 use Rattle.std.proofs.lemmas.List.Sums.{AllPass-from_list_all, list_all-from_AllPass}
 use Rattle.std.proofs.lemmas.List.FromFn.{length-range_with_len, get_or-range_with_len}
 use Rattle.std.proofs.Math.ListN.{get_or-eq_default}
@@ -18,7 +18,13 @@ use Rattle.sc_echelon.specs.Kernel.{IsBefore}
 use Rattle.sc_field.specs.Gf256.{gf256_product}
 use Rattle.sc_matrix.specs.Layout.{cut}
 use Rattle.sc_matrix.proofs.LayoutLaws.{length-cut, get_or-cut, vectors-cut}
+use Rattle.sc_channel.specs.Channel.{ChannelNumbers, IsChannel, IsOrdered}
+use Rattle.sc_channel.specs.Classes.{classes_of, IsClass}
+use Rattle.sc_channel.proofs.ClassLaws.{All-classes, length-classes_of, length-class, IsSet-class}
+use Rattle.sc_channel.proofs.SetCountSteps.{IsSet-in_range}
 use Rattle.sc_code.specs.Code.{Code}
+use Rattle.sc_code.proofs.ElementLaws.{IsDecidedOver-iff_bytes}
+use Rattle.sc_check.specs.Failing.{class_at, DecidesAll, IsFirstFailing}
 use Rattle.sc_code.specs.Determined.{IsKept}
 use Rattle.sc_code.specs.Elements.{element_at, IsZeroElements, IsDecidedOver}
 use Rattle.sc_code.specs.Parity.{parity_symbol}
@@ -26,7 +32,7 @@ use Rattle.sc_window.specs.Window.{symbols_of}
 use Rattle.sc_window.specs.Difference.{IsDifference, IsLeastStream, IsLeastDifference}
 use Rattle.sc_code.specs.FirstBytes.{first_bytes}
 use Rattle.sc_code.proofs.FirstBytesLaws.{first_below-some, option_map-none, option_map-some, AreBytes, tail_bytes, more_bytes, something, first_bytes-none}
-use Rattle.sc_check.specs.Answer.{is_zero, is_zero_slot, is_difference, difference_of, Refuted, refuted_or, first_refuted}
+use Rattle.sc_check.specs.Answer.{is_zero, is_zero_slot, is_difference, difference_of, Refuted, refuted_or, first_refuted, refuted_of}
 
 -- a list that passes, and comes before all others that do
 pub record IsFirstBytes (n : ℕ) (test : List ℕ → Bool) (xs : List ℕ) : Type 0 where
@@ -360,15 +366,15 @@ module _ (code : Code ℕ) where
   nothing_behind None index class behind h = (refl, h)
   nothing_behind (Some stream) index class behind h = absurd (cc)
 
-  All-classes : (class : List Bool) (classes : List (List Bool)) → IsDecidedClass code class → All (IsDecidedClass code) classes → All (IsDecidedClass code) (class ∷ classes)
-  All-classes class classes first h naught d lt = first
-  All-classes class classes first h (suc i) d lt = h i d (omega (arith, lt))
+  All-more : (class : List Bool) (classes : List (List Bool)) → IsDecidedClass code class → All (IsDecidedClass code) classes → All (IsDecidedClass code) (class ∷ classes)
+  All-more class classes first h naught d lt = first
+  All-more class classes first h (suc i) d lt = h i d (omega (arith, lt))
 
   pub decided-none : (index : ℕ) (classes : List (List Bool)) → All (λ class. 0 < length class) classes → first_refuted code index classes ≡ None → All (IsDecidedClass code) classes
   decided-none index [] some none = All-nil (IsDecidedClass code)
   decided-none index (class ∷ classes) some none =
       let parts = nothing_behind (difference_of code class) index class (first_refuted code (suc index) classes) none in
-      All-classes class classes (difference-decided code class (some 0 [] (omega arith)) parts.0)
+      All-more class classes (difference-decided code class (some 0 [] (omega arith)) parts.0)
       (decided-none (suc index) classes (λ i d lt. some (suc i) d (omega (arith, lt))) parts.1)
 
   pub record IsFirstRefuted (index : ℕ) (classes : List (List Bool)) (r : Refuted) : Type 0 where
@@ -416,3 +422,41 @@ module _ (code : Code ℕ) where
   first-refuted index (class ∷ classes) r some is =
       refuted-first (difference_of code class) index class classes r (some 0 [] (omega arith)) refl is
       (λ s there. first-refuted (suc index) classes s (λ i d lt. some (suc i) d (omega (arith, lt))) there)
+
+-- ---- the answer of a check
+pub classes-some : (channel : ChannelNumbers) → IsOrdered channel.w channel.b channel.n channel.t → All (λ class. 0 < length class) (classes_of channel)
+classes-some channel ordered =
+    All-weaker (IsClass channel) (λ class. 0 < length class) (λ class is. IsSet-in_range class 0 (IsSet-class channel class ordered is)) (classes_of channel) (All-classes channel ordered)
+
+decided_classes : (code : Code ℕ) (channel : ChannelNumbers) → IsOrdered channel.w channel.b channel.n channel.t → DecidesAll code channel → All (IsDecidedClass code) (classes_of channel)
+decided_classes code channel ordered all i d lt =
+    (IsDecidedOver-iff_bytes gf256_product code (get_or (classes_of channel) i d) (classes-some channel ordered i d lt)).1 (all i d lt)
+
+-- where each class decides there is no refutation
+pub answer-meets : (code : Code ℕ) (given channel : ChannelNumbers) → IsChannel channel → given ≡ channel → DecidesAll code given → refuted_of code channel ≡ None
+answer-meets code given channel limits same all =
+    refuted-none code 0 (classes_of channel) (classes-some channel limits.ordered) (decided_classes code channel limits.ordered (subst (DecidesAll code) same all))
+
+-- the first class that doesn't decide is told with the least difference
+pub answer-fails : (code : Code ℕ) (channel : ChannelNumbers) (index : ℕ) (loss : List Bool) (numbers : List (List ℕ)) → IsChannel channel → loss ≡ class_at channel index → IsFirstFailing code channel index
+    → IsLeastDifference IsByte 0 bit_xor gf256_product (λ n. n) code loss numbers → Some (record { index = index; class = loss; stream = numbers }) ≡ refuted_of code channel
+answer-fails code channel index loss numbers limits e first least =
+    let some = classes-some channel limits.ordered in
+    let count = length-classes_of channel in
+    let found = refuted-some code 0 (classes_of channel) index numbers some (omega (arith, count, first.in_range))
+    (λ i lt. (IsDecidedOver-iff_bytes gf256_product code (get_or (classes_of channel) i []) (some i [] (omega (arith, count, first.in_range, lt)))).1 (first.earlier i lt))
+    (subst (λ l. IsLeastDifference IsByte 0 bit_xor gf256_product (λ n. n) code l numbers) e least) in
+    let at : index ≡ 0 + index = omega arith in
+    ap (λ l. Some (record { index = index; class = l; stream = numbers })) e
+    ∙ ap (λ n. Some (record { index = n; class = class_at channel index; stream = numbers })) at ∙ sym found
+
+-- a least difference has a block for each flag, each of k symbols
+pub least-shape : (code : Code ℕ) (channel : ChannelNumbers) (loss : List Bool) (numbers : List (List ℕ)) → IsChannel channel → IsClass channel loss
+    → IsLeastDifference IsByte 0 bit_xor gf256_product (λ n. n) code loss numbers → (length numbers ≡ channel.t + 1) × All (λ block. length block ≡ code.k) numbers
+least-shape code channel loss numbers limits is h =
+    let same : numbers ≡ h.stream = h.are_numbers ∙ numbers_same h.stream in
+    let d = h.is_least.belongs in
+    (
+      ap length same ∙ d.count ∙ length-class channel loss limits.ordered is,
+      subst (All (λ block. length block ≡ code.k)) (sym same) (λ i e lt. (d.blocks i e lt).width),
+    )

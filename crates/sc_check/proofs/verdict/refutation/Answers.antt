@@ -1,4 +1,5 @@
 use Rattle.sc_check.proofs.VerdictSteps.{class-length, not_first_failing, least_refutation, told_none, told_some}
+use Rattle.sc_check.proofs.AnswerLaws.{answer-fails, least-shape}
 use Rattle.sc_check.proofs.verdict.refutation.Goals as goal
 
 pub unreachable-requires : goal.unreachable-requires
@@ -6,7 +7,17 @@ unreachable-requires c =
     not_first_failing c.args.code.now c.args.classes.now c.args.index c.in_ok-loss.loss c.in_ok-loss.ensures.limits c.in_ok-loss.ensures.is_class c.in_ok-loss.ensures.class c.requires.first
     (told_none c.args.code.now c.as_slice.result.now c.in_ok-loss.loss c.in_ok-stream.field-0 c.as_slice.ensures c.in-None.is c.in_ok-stream.ensures.least)
 
-pub returns : goal.returns
-returns c =
+pub returns-clause-verdict : goal.returns-clause-verdict
+returns-clause-verdict c =
     least_refutation c.args.code.now c.args.classes.now c.args.index c.in_ok-loss.loss c.in-Some.stream c.requires.code c.in_ok-loss.ensures.limits c.in_ok-loss.ensures.is_class c.in_ok-loss.ensures.class c.requires.first
+    (told_some c.args.code.now c.as_slice.result.now c.in_ok-loss.loss c.in_ok-stream.field-0 c.in-Some.stream c.as_slice.ensures c.in-Some.is c.in_ok-stream.ensures.least)
+
+pub returns-clause-answer : goal.returns-clause-answer
+returns-clause-answer c =
+    answer-fails c.args.code.now c.args.classes.now c.args.index c.in_ok-loss.loss c.in-Some.stream c.in_ok-loss.ensures.limits c.in_ok-loss.ensures.class c.requires.first
+    (told_some c.args.code.now c.as_slice.result.now c.in_ok-loss.loss c.in_ok-stream.field-0 c.in-Some.stream c.as_slice.ensures c.in-Some.is c.in_ok-stream.ensures.least)
+
+pub returns-clause-shape : goal.returns-clause-shape
+returns-clause-shape c =
+    least-shape c.args.code.now c.args.classes.now c.in_ok-loss.loss c.in-Some.stream c.in_ok-loss.ensures.limits c.in_ok-loss.ensures.is_class
     (told_some c.args.code.now c.as_slice.result.now c.in_ok-loss.loss c.in_ok-stream.field-0 c.in-Some.stream c.as_slice.ensures c.in-Some.is c.in_ok-stream.ensures.least)
