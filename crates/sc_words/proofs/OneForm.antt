@@ -10,7 +10,7 @@ use Rattle.std.specs.Str.{bytes_eq}
 use Rattle.sc_channel.specs.Channel.{ChannelNumbers, IsChannel, is_channel}
 use Rattle.sc_channel.proofs.ChannelLaws.{is_channel-to, is_channel-from}
 use Rattle.sc_channel.specs.declared.flags.TheConstants.{MAX_FLAGS}
-use Rattle.sc_words.specs.Words.{Command, lose_word, generate, protect, check, number_to, channel_at, channel_of, is_flag, is_lost, is_loss_word, flags_of, lose_at, lose_of, gen_at, gen_of, protect_at, protect_of, check_at, check_of, command_of}
+use Rattle.sc_words.specs.Words.{Command, lose_word, generate, protect, check, bound, certify, number_to, channel_at, channel_of, is_flag, is_lost, is_loss_word, flags_of, lose_at, lose_of, gen_at, gen_of, protect_at, protect_of, check_at, check_of, bound_at, bound_of, certify_of, command_of}
 use Rattle.sc_words.specs.Forms.{character_of, words_of, IsWithinLimits}
 use Rattle.sc_words.proofs.Forms.{flags_of-word, flags_of-none}
 use Rattle.sc_words.proofs.Numbers.{number_to-to_decimal, number_to-decimal}
@@ -200,32 +200,93 @@ check_of-to (code ∷ a ∷ []) command is =
     subst (AreItsWords (codes "check" ∷ code ∷ a ∷ [])) parts.is (cc, (parts.least, workers_text.1))
 check_of-to (code ∷ a ∷ more ∷ rest) command is = absurd (cc)
 
+-- the words of a channel
+record ChannelTexts (w b n t : List ℕ) (c : ChannelNumbers) : Type 0 where
+  w_is : w ≡ decimal c.w
+  b_is : b ≡ decimal c.b
+  n_is : n ≡ decimal c.n
+  t_is : t ≡ decimal c.t
+  channel : IsChannel c
+
+channel_of-to : (w b n t : List ℕ) (c : ChannelNumbers) → channel_of w b n t ≡ Some c → ChannelTexts w b n t c
+channel_of-to w b n t c is =
+    let numbers = channel_at-to (number_to 4294967295 w) (number_to 4294967295 b) (number_to 4294967295 n) (number_to 4294967295 t) c is in
+    record {
+      w_is = (number_to-to_decimal 4294967295 w c.w (omega arith) numbers.w_is).0;
+      b_is = (number_to-to_decimal 4294967295 b c.b (omega arith) numbers.b_is).0;
+      n_is = (number_to-to_decimal 4294967295 n c.n (omega arith) numbers.n_is).0;
+      t_is = (number_to-to_decimal 4294967295 t c.t (omega arith) numbers.t_is).0;
+      channel = is_channel-to c numbers.channel;
+    }
+
+record BoundParts (o : Option ChannelNumbers) (command : Command) : Type 0 where
+  channel : ChannelNumbers
+  o_is : o ≡ Some channel
+  is : bound channel ≡ command
+
+bound_at-to : (o : Option ChannelNumbers) (command : Command) → bound_at o ≡ Some command → BoundParts o command
+bound_at-to (Some c) command is = record { channel = c; o_is = refl; is = cc }
+bound_at-to None command is = absurd (cc)
+
+bound_of-to : (words : List (List ℕ)) (command : Command) → bound_of words ≡ Some command → AreItsWords (codes "bound" ∷ words) command
+bound_of-to [] command is = absurd (cc)
+bound_of-to (w ∷ []) command is = absurd (cc)
+bound_of-to (w ∷ b ∷ []) command is = absurd (cc)
+bound_of-to (w ∷ b ∷ n ∷ []) command is = absurd (cc)
+bound_of-to (w ∷ b ∷ n ∷ t ∷ []) command is =
+    let parts = bound_at-to (channel_of w b n t) command is in
+    let texts = channel_of-to w b n t parts.channel parts.o_is in
+    let w_text : w ≡ decimal parts.channel.w = texts.w_is in
+    let b_text : b ≡ decimal parts.channel.b = texts.b_is in
+    let n_text : n ≡ decimal parts.channel.n = texts.n_is in
+    let t_text : t ≡ decimal parts.channel.t = texts.t_is in
+    subst (AreItsWords (codes "bound" ∷ w ∷ b ∷ n ∷ t ∷ [])) parts.is (cc, texts.channel)
+bound_of-to (w ∷ b ∷ n ∷ t ∷ more ∷ rest) command is = absurd (cc)
+
+certify_of-to : (words : List (List ℕ)) (command : Command) → certify_of words ≡ Some command → AreItsWords (codes "certify" ∷ words) command
+certify_of-to [] command is = absurd (cc)
+certify_of-to (code ∷ []) command is = absurd (cc)
+certify_of-to (code ∷ cert ∷ []) command is =
+    let same : certify code cert ≡ command = cc in
+    subst (AreItsWords (codes "certify" ∷ code ∷ cert ∷ [])) same (refl, tt)
+certify_of-to (code ∷ cert ∷ more ∷ rest) command is = absurd (cc)
+
 -- one command's name after another
+named_certify : (name : List ℕ) (words : List (List ℕ)) (command : Command) (is_certify : Bool) → bytes_eq name (codes "certify") ≡ is_certify
+    → cond is_certify (certify_of words) None ≡ Some command → AreItsWords (name ∷ words) command
+named_certify name words command true asked is =
+    subst (λ n. AreItsWords (n ∷ words) command) (sym ((bytes_eq-Decides name (codes "certify")).0 asked)) (certify_of-to words command is)
+named_certify name words command false asked is = absurd (cc)
+
+named_bound : (name : List ℕ) (words : List (List ℕ)) (command : Command) (is_bound : Bool) → bytes_eq name (codes "bound") ≡ is_bound
+    → cond is_bound (bound_of words) (cond (bytes_eq name (codes "certify")) (certify_of words) None) ≡ Some command → AreItsWords (name ∷ words) command
+named_bound name words command true asked is =
+    subst (λ n. AreItsWords (n ∷ words) command) (sym ((bytes_eq-Decides name (codes "bound")).0 asked)) (bound_of-to words command is)
+named_bound name words command false asked is = named_certify name words command (bytes_eq name (codes "certify")) refl is
+
 named_check : (name : List ℕ) (words : List (List ℕ)) (command : Command) (is_check : Bool) → bytes_eq name (codes "check") ≡ is_check
-    → cond is_check (check_of words) None ≡ Some command → AreItsWords (name ∷ words) command
-named_check name words command true c is =
-    subst (λ n. AreItsWords (n ∷ words) command) (sym ((bytes_eq-Decides name (codes "check")).0 c)) (check_of-to words command is)
-named_check name words command false c is = absurd (cc)
+    → cond is_check (check_of words) (cond (bytes_eq name (codes "bound")) (bound_of words) (cond (bytes_eq name (codes "certify")) (certify_of words) None)) ≡ Some command → AreItsWords (name ∷ words) command
+named_check name words command true asked is =
+    subst (λ n. AreItsWords (n ∷ words) command) (sym ((bytes_eq-Decides name (codes "check")).0 asked)) (check_of-to words command is)
+named_check name words command false asked is = named_bound name words command (bytes_eq name (codes "bound")) refl is
 
 named_protect : (name : List ℕ) (words : List (List ℕ)) (command : Command) (is_protect : Bool) → bytes_eq name (codes "protect") ≡ is_protect
-    → cond is_protect (protect_of words) (cond (bytes_eq name (codes "check")) (check_of words) None) ≡ Some command → AreItsWords (name ∷ words) command
-named_protect name words command true p is =
-    subst (λ n. AreItsWords (n ∷ words) command) (sym ((bytes_eq-Decides name (codes "protect")).0 p)) (protect_of-to words command is)
-named_protect name words command false p is = named_check name words command (bytes_eq name (codes "check")) refl is
+    → cond is_protect (protect_of words) (cond (bytes_eq name (codes "check")) (check_of words) (cond (bytes_eq name (codes "bound")) (bound_of words) (cond (bytes_eq name (codes "certify")) (certify_of words) None))) ≡ Some command → AreItsWords (name ∷ words) command
+named_protect name words command true asked is =
+    subst (λ n. AreItsWords (n ∷ words) command) (sym ((bytes_eq-Decides name (codes "protect")).0 asked)) (protect_of-to words command is)
+named_protect name words command false asked is = named_check name words command (bytes_eq name (codes "check")) refl is
 
 named_gen : (name : List ℕ) (words : List (List ℕ)) (command : Command) (is_gen : Bool) → bytes_eq name (codes "gen") ≡ is_gen
-    → cond is_gen (gen_of words) (cond (bytes_eq name (codes "protect")) (protect_of words) (cond (bytes_eq name (codes "check")) (check_of words) None)) ≡ Some command
-    → AreItsWords (name ∷ words) command
-named_gen name words command true g is =
-    subst (λ n. AreItsWords (n ∷ words) command) (sym ((bytes_eq-Decides name (codes "gen")).0 g)) (gen_of-to words command is)
-named_gen name words command false g is = named_protect name words command (bytes_eq name (codes "protect")) refl is
+    → cond is_gen (gen_of words) (cond (bytes_eq name (codes "protect")) (protect_of words) (cond (bytes_eq name (codes "check")) (check_of words) (cond (bytes_eq name (codes "bound")) (bound_of words) (cond (bytes_eq name (codes "certify")) (certify_of words) None)))) ≡ Some command → AreItsWords (name ∷ words) command
+named_gen name words command true asked is =
+    subst (λ n. AreItsWords (n ∷ words) command) (sym ((bytes_eq-Decides name (codes "gen")).0 asked)) (gen_of-to words command is)
+named_gen name words command false asked is = named_protect name words command (bytes_eq name (codes "protect")) refl is
 
 named_lose : (name : List ℕ) (words : List (List ℕ)) (command : Command) (is_lose : Bool) → bytes_eq name (codes "lose") ≡ is_lose
-    → cond is_lose (lose_of words) (cond (bytes_eq name (codes "gen")) (gen_of words) (cond (bytes_eq name (codes "protect")) (protect_of words)
-    (cond (bytes_eq name (codes "check")) (check_of words) None))) ≡ Some command → AreItsWords (name ∷ words) command
-named_lose name words command true l is =
-    subst (λ n. AreItsWords (n ∷ words) command) (sym ((bytes_eq-Decides name (codes "lose")).0 l)) (lose_of-to words command is)
-named_lose name words command false l is = named_gen name words command (bytes_eq name (codes "gen")) refl is
+    → cond is_lose (lose_of words) (cond (bytes_eq name (codes "gen")) (gen_of words) (cond (bytes_eq name (codes "protect")) (protect_of words) (cond (bytes_eq name (codes "check")) (check_of words) (cond (bytes_eq name (codes "bound")) (bound_of words) (cond (bytes_eq name (codes "certify")) (certify_of words) None))))) ≡ Some command → AreItsWords (name ∷ words) command
+named_lose name words command true asked is =
+    subst (λ n. AreItsWords (n ∷ words) command) (sym ((bytes_eq-Decides name (codes "lose")).0 asked)) (lose_of-to words command is)
+named_lose name words command false asked is = named_gen name words command (bytes_eq name (codes "gen")) refl is
 
 pub command_of-to : (words : List (List ℕ)) (command : Command) → command_of words ≡ Some command → (words ≡ words_of command) × IsWithinLimits command
 command_of-to [] command is = absurd (cc)
@@ -257,3 +318,5 @@ command_of-words_of (check code workers) within =
     let workers_is = number_to-decimal 64 workers (omega arith) within.1 in
     let least : nat_le 1 workers ≡ true = grind (arith, nat_tests, within.0) in
     rw (workers_is, least) refl
+command_of-words_of (bound c) within = rw (channel_of-decimal c within) refl
+command_of-words_of (certify code cert) within = refl

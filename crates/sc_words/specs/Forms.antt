@@ -3,7 +3,7 @@ use Rattle.std.specs.Prelude.{ℕ, ◌≤◌, Bool, true, false, List, [], ◌�
 use Rattle.std.specs.Fmt.{decimal}
 use Rattle.sc_channel.specs.Channel.{IsChannel}
 use Rattle.sc_channel.specs.declared.flags.TheConstants.{MAX_FLAGS}
-use Rattle.sc_words.specs.Words.{Command, lose_word, generate, protect, check}
+use Rattle.sc_words.specs.Words.{Command, lose_word, generate, protect, check, bound, certify}
 
 -- the character of a flag: 1 (49) where the slot is lost, and else 0 (48)
 abbrev pub character_of : Bool → ℕ
@@ -17,6 +17,8 @@ words_of (lose_word channel flags) =
 words_of (generate seed count size) = codes "gen" ∷ decimal seed ∷ decimal count ∷ decimal size ∷ []
 words_of (protect code size) = codes "protect" ∷ code ∷ decimal size ∷ []
 words_of (check code workers) = codes "check" ∷ code ∷ decimal workers ∷ []
+words_of (bound channel) = codes "bound" ∷ decimal channel.w ∷ decimal channel.b ∷ decimal channel.n ∷ decimal channel.t ∷ []
+words_of (certify code cert) = codes "certify" ∷ code ∷ cert ∷ []
 
 -- the limits of what a command may ask for
 abbrev pub IsWithinLimits : Command → Type 0
@@ -24,3 +26,5 @@ IsWithinLimits (lose_word channel flags) = IsChannel channel × (length flags �
 IsWithinLimits (generate seed count size) = (seed ≤ 18446744073709551615) × (count ≤ 3999960) × (12 ≤ size) × (size ≤ 1472)
 IsWithinLimits (protect code size) = (12 ≤ size) × (size ≤ 1472)
 IsWithinLimits (check code workers) = (1 ≤ workers) × (workers ≤ 64)
+IsWithinLimits (bound channel) = IsChannel channel
+IsWithinLimits (certify code cert) = Unit {0}

@@ -52,6 +52,8 @@ pub data Command : Type 0 where
   generate : ℕ → ℕ → ℕ → Command
   protect : List ℕ → ℕ → Command
   check : List ℕ → ℕ → Command
+  bound : ChannelNumbers → Command
+  certify : List ℕ → List ℕ → Command
 
 -- the command that a channel and flags ask for, where both are there
 abbrev pub lose_at : Option ChannelNumbers → Option (List Bool) → Option Command
@@ -94,6 +96,21 @@ abbrev pub check_of : List (List ℕ) → Option Command
 check_of (code ∷ workers ∷ []) = check_at code (number_to 64 workers)
 check_of _ = None
 
+-- the command that a channel asks for, where it is there
+abbrev pub bound_at : Option ChannelNumbers → Option Command
+bound_at (Some channel) = Some (bound channel)
+bound_at None = None
+
+-- W B N T
+abbrev pub bound_of : List (List ℕ) → Option Command
+bound_of (w ∷ b ∷ n ∷ t ∷ []) = bound_at (channel_of w b n t)
+bound_of _ = None
+
+-- CODE CERT
+abbrev pub certify_of : List (List ℕ) → Option Command
+certify_of (code ∷ cert ∷ []) = Some (certify code cert)
+certify_of _ = None
+
 -- the command whose form the words have: its name, then its words
 abbrev pub command_of : List (List ℕ) → Option Command
 command_of [] = None
@@ -101,7 +118,9 @@ command_of (name ∷ words) =
     if bytes_eq name (codes "lose") then lose_of words
     else (if bytes_eq name (codes "gen") then gen_of words
     else (if bytes_eq name (codes "protect") then protect_of words
-    else (if bytes_eq name (codes "check") then check_of words else None)))
+    else (if bytes_eq name (codes "check") then check_of words
+    else (if bytes_eq name (codes "bound") then bound_of words
+    else (if bytes_eq name (codes "certify") then certify_of words else None)))))
 
 -- the bytes of each word
 abbrev pub texts : {A : Type 0} → List (String A) → List (List ℕ)

@@ -2,7 +2,7 @@
 
 ghost use Rattle.std.specs.Prelude.{◌≡◌, ◌≤◌, true, Some, IfOk, IfSome, map};
 ghost use Rattle.std.specs.Option.{option_map};
-ghost use Rattle.sc_words.specs.Words.{number_to, begins_plain, channel_of, is_lost, flags_of, is_loss_word, lose_of, gen_of, protect_of, check_of, command_of, texts};
+ghost use Rattle.sc_words.specs.Words.{number_to, begins_plain, channel_of, is_lost, flags_of, is_loss_word, lose_of, gen_of, protect_of, check_of, bound_of, certify_of, command_of, texts};
 ghost use Rattle.sc_words.specs.Command.{meaning, HasItsForms};
 
 use sc_channel::{Channel, Flags, MAX_FLAGS};
@@ -53,15 +53,27 @@ pub enum Command<'a> {
         /// How many workers share the work: 1 to 64.
         workers: u32,
     },
+    /// `bound W B N T`: write the standard certificate of a channel.
+    Bound {
+        /// The channel.
+        channel: Channel,
+    },
+    /// `certify CODE CERT`: whether a certificate bounds the rate of every code for the channel of a code file.
+    Certify {
+        /// The name of the code's file.
+        code: &'a str,
+        /// The name of the certificate's file.
+        cert: &'a str,
+    },
 }
 
 /// The command whose form the words have, the command's name first, and `None` exactly where they
 /// have no form. It takes no memory.
 ///
-/// The forms are `lose W B N T LOSSWORD`, `gen SEED COUNT SIZE`, `protect CODE SIZE` and `check CODE WORKERS`. Numbers are
-/// decimal, without sign and without a leading zero. W, B, N and T are a channel; the loss word is 0 to 4,000,000 characters
-/// `0` and `1`. The seed has at most 64 bits, the count is at most 3,999,960, a size is 12 to 1,472, and there are 1 to 64
-/// workers. A file's name is any word. The forms are of this project.
+/// The forms are `lose W B N T LOSSWORD`, `gen SEED COUNT SIZE`, `protect CODE SIZE`, `check CODE WORKERS`, `bound W B N T` and
+/// `certify CODE CERT`. Numbers are decimal, without sign and without a leading zero. W, B, N and T are a channel; the loss word
+/// is 0 to 4,000,000 characters `0` and `1`. The seed has at most 64 bits, the count is at most 3,999,960, a size is 12 to
+/// 1,472, and there are 1 to 64 workers. A file's name is any word. The forms are of this project.
 pub fn read_words(words: &Vec<String>) -> Option<Command<'_>>
     ensures command { command_of (texts words.now.items) ≡ option_map meaning result }
     ensures forms { IfSome result HasItsForms }
@@ -71,6 +83,8 @@ pub fn read_words(words: &Vec<String>) -> Option<Command<'_>>
         [name, rest @ ..] if name.as_str() == "gen" => read_gen(rest),
         [name, rest @ ..] if name.as_str() == "protect" => read_protect(rest),
         [name, rest @ ..] if name.as_str() == "check" => read_check(rest),
+        [name, rest @ ..] if name.as_str() == "bound" => read_bound(rest),
+        [name, rest @ ..] if name.as_str() == "certify" => read_certify(rest),
         _ => None,
     }
 }
@@ -158,6 +172,35 @@ fn read_check(words: &[String]) -> Option<Command<'_>>
                 return None;
             }
             Some(Command::Check { code, workers })
+        }
+        _ => None,
+    }
+}
+
+/// The words after `bound`.
+fn read_bound(words: &[String]) -> Option<Command<'_>>
+    ensures command { bound_of (texts words.now) ≡ option_map meaning result }
+    ensures forms { IfSome result HasItsForms }
+{
+    match words {
+        [w, b, n, t] => {
+            let channel = read_channel(w.as_str(), b.as_str(), n.as_str(), t.as_str())?;
+            Some(Command::Bound { channel })
+        }
+        _ => None,
+    }
+}
+
+/// The words after `certify`.
+fn read_certify(words: &[String]) -> Option<Command<'_>>
+    ensures command { certify_of (texts words.now) ≡ option_map meaning result }
+    ensures forms { IfSome result HasItsForms }
+{
+    match words {
+        [code, cert] => {
+            let code = code.as_str();
+            let cert = cert.as_str();
+            Some(Command::Certify { code, cert })
         }
         _ => None,
     }
@@ -361,6 +404,36 @@ mod tests {
                     _ => false,
                 },
                 None => want.is_none(),
+            };
+            assert!(rt; right, "at {line}");
+        }
+        Ok(())
+    }
+
+    #[test]
+    fn reads_the_forms_of_bounds(rt: HostRuntime) -> Result<(), Fail> {
+        for (line, numbers, files) in [
+            ("bound 3 2 1 2", Some((3, 2, 1, 2)), None),
+            ("bound 255 40 1 40", Some((255, 40, 1, 40)), None),
+            ("bound 3 2 1 3", None, None),
+            ("bound 3 2 1", None, None),
+            ("bound 3 2 1 2 0", None, None),
+            ("bound 03 2 1 2", None, None),
+            ("certify a b", None, Some(("a", "b"))),
+            ("certify  ", None, Some(("", ""))),
+            ("certify a", None, None),
+            ("certify a b c", None, None),
+        ] {
+            let words = words_of(rt.alloc(), line)?;
+            let right = match read_words(&words) {
+                Some(command) => match command {
+                    Command::Bound { channel } => {
+                        numbers == Some((channel.w(), channel.b(), channel.n(), channel.t()))
+                    }
+                    Command::Certify { code, cert } => files == Some((code, cert)),
+                    _ => false,
+                },
+                None => numbers.is_none() && files.is_none(),
             };
             assert!(rt; right, "at {line}");
         }

@@ -5,7 +5,12 @@ use Rattle.sc_outside.specs.Ends.{Job, told_as, IsJob, input, write, Ends}
 use Rattle.sc_outside.specs.Whole.{PutsAll, WriteFailed}
 use Rattle.sc_outside.specs.Port.{Told}
 use Rattle.sc_outside.proofs.EndsLaws.{Ends-at_once, Ends-no_memory, Ends-told_as, IsJob-told_as, IsJob-at_once, IsPrefix-nil, some_left}
+use Rattle.sc_channel.specs.Certificate.{CertificateNumbers}
 use Rattle.sc_channel.specs.Channel.{ChannelNumbers}
+use Rattle.sc_codefile.specs.CertificateFile.{certificate_text}
+use Rattle.sc_rate.specs.Rate.{kept_count}
+use Rattle.sc_rate.specs.Residue.{bad_residue}
+use Rattle.sc_rate.specs.Standard.{standard_certificate}
 use Rattle.sc_channel.specs.Classes.{class_count}
 use Rattle.sc_check.specs.Answer.{Refuted, refuted_of}
 use Rattle.sc_channel.specs.Flags.{set_count}
@@ -28,9 +33,10 @@ use Rattle.sc_slots.proofs.ProtectedLaws.{protecting-IsJob, protecting-decided}
 use Rattle.sc_trial.specs.Generated.{generated}
 use Rattle.streamcode.specs.declared.end.Role.{Role}
 use Rattle.streamcode.specs.declared.end.End.{End}
-use Rattle.streamcode.specs.declared.end.End.TheVariants.{Thinned, Generated, Protected, Accepted, Refused, LossRefused, Usage, Capture, MoreRecords, FewerRecords, FileRefused, FileTooLong, PacketTooWide, PacketTooLong, TooManyRecords, TooManySlots, TooManyClasses, ReadFault, WriteFault, NoMemory}
+use Rattle.streamcode.specs.declared.end.End.TheVariants.{Thinned, Generated, Protected, Bound, Accepted, Refused, CertificateRefused, LossRefused, Usage, Capture, MoreRecords, FewerRecords, FileRefused, FileTooLong, PacketTooWide, PacketTooLong, TooManyRecords, TooManySlots, TooManyClasses, ReadFault, WriteFault, NoMemory}
 use Rattle.streamcode.specs.End.{status_of, end_of_drop, end_of_protect}
-use Rattle.streamcode.specs.Jobs.{refusal, giving, lose_by, lose_job, gen_job, protect_job, check_by, check_job, IsSilent}
+use Rattle.streamcode.specs.Jobs.{refusal, giving, lose_by, lose_job, gen_job, protect_job, check_by, check_job, bound_job, certify_by, certify_job, IsSilent}
+use Rattle.streamcode.specs.Bound.{bound_line}
 use Rattle.streamcode.specs.Verdict.{verdict_end, meets_text, fails_text, verdict_text}
 
 -- ends that the words and the input decide
@@ -40,6 +46,8 @@ IsOfInput (Generated records) = Unit {0}
 IsOfInput (Protected done) = Unit {0}
 IsOfInput Accepted = Unit {0}
 IsOfInput Refused = Unit {0}
+IsOfInput (Bound kept period) = Unit {0}
+IsOfInput (CertificateRefused residue) = Unit {0}
 IsOfInput (TooManyClasses count) = Unit {0}
 IsOfInput (LossRefused window) = Unit {0}
 IsOfInput (FileRefused role fault) = Unit {0}
@@ -66,6 +74,8 @@ of_input_inside (Thinned dropped) h = record { formed = λ e. omega (arith, e); 
 of_input_inside (Generated records) h = record { formed = λ e. omega (arith, e); inside = inl (omega arith) }
 of_input_inside (Protected done) h = record { formed = λ e. omega (arith, e); inside = inl (omega arith) }
 of_input_inside Accepted h = record { formed = λ e. omega (arith, e); inside = inl (omega arith) }
+of_input_inside (Bound kept period) h = record { formed = λ e. omega (arith, e); inside = inl (omega arith) }
+of_input_inside (CertificateRefused residue) h = record { formed = λ e. omega (arith, e); inside = inl (omega arith) }
 of_input_inside Refused h = record { formed = λ e. omega (arith, e); inside = inl (omega arith) }
 of_input_inside (LossRefused window) h = record { formed = λ e. omega (arith, e); inside = inl (omega arith) }
 of_input_inside (Capture fault) h = record { formed = λ e. omega (arith, e); inside = inl (omega arith) }
@@ -172,6 +182,18 @@ check_by-is false file = verdict-is file (refuted_of file.code file.channel)
 
 pub check_job-is : (file : CodeFile) → IsProgramJob (check_job file)
 check_job-is file = check_by-is (nat_lt 1000000 (class_count file.channel)) file
+
+pub bound_job-is : (channel : ChannelNumbers) → IsProgramJob (bound_job channel)
+bound_job-is channel =
+    let certificate = standard_certificate channel in
+    giving-is (Bound (kept_count certificate) certificate.period) (certificate_text certificate ++ 10 ∷ []) tt
+
+certify_by-is : (residue : Option ℕ) (file : CodeFile) (certificate : CertificateNumbers) → IsProgramJob (certify_by residue file certificate)
+certify_by-is (Some residue) file certificate = record { run = refusal-is true (CertificateRefused residue); of_input = λ input. tt }
+certify_by-is None file certificate = giving-is Accepted (bound_line file.code certificate) tt
+
+pub certify_job-is : (file : CodeFile) (certificate : CertificateNumbers) → IsProgramJob (certify_job file certificate)
+certify_job-is file certificate = certify_by-is (bad_residue file.channel certificate) file certificate
 
 decided_of_input : (result : Result Done ProtectFault) → IsDecidedAnswer result → IsOfInput (end_of_protect result)
 decided_of_input (Ok done) h = tt
@@ -302,3 +324,32 @@ pub check_gives : (file : CodeFile) → class_count file.channel ≤ 1000000 →
 check_gives file few silent =
     let there : IsSilent (check_by false file) = subst (λ b. IsSilent (check_by b file)) (few_is (class_count file.channel) few) silent in
     verdict_gives file (refuted_of file.code file.channel) there.nothing
+
+-- ---- how `bound` and `certify` end
+pub bound_gives : (channel : ChannelNumbers) → IsSilent (bound_job channel) → ⊥
+bound_gives channel silent = cc silent.nothing
+
+pub bound_memory : (channel : ChannelNumbers) (told : Told) → Ends (bound_job channel) told told NoMemory
+bound_memory channel told = Ends-no_memory (bound_job channel) told refl
+
+certify_by_memory : (residue : Option ℕ) (file : CodeFile) (certificate : CertificateNumbers) (told : Told) → Ends (certify_by residue file certificate) told told NoMemory
+certify_by_memory (Some residue) file certificate told = Ends-no_memory (refusal true (CertificateRefused residue)) told refl
+certify_by_memory None file certificate told = Ends-no_memory (giving Accepted (bound_line file.code certificate)) told refl
+
+pub certify_memory : (file : CodeFile) (certificate : CertificateNumbers) (told : Told) → Ends (certify_job file certificate) told told NoMemory
+certify_memory file certificate told = certify_by_memory (bad_residue file.channel certificate) file certificate told
+
+pub certify_refused : (file : CodeFile) (certificate : CertificateNumbers) (told : Told) (residue : ℕ) → Some residue ≡ bad_residue file.channel certificate
+    → Ends (certify_job file certificate) told told (CertificateRefused residue)
+certify_refused file certificate told residue e =
+    subst (λ r. Ends (certify_by r file certificate) told told (CertificateRefused residue)) e (Ends-at_once (CertificateRefused residue) ReadFault WriteFault NoMemory true told)
+
+pub certify_given : (file : CodeFile) (certificate : CertificateNumbers) (text : List ℕ) (end : End) (old new : Told) → None ≡ bad_residue file.channel certificate → text ≡ bound_line file.code certificate
+    → Ends (giving Accepted text) old new end → Ends (certify_job file certificate) old new end
+certify_given file certificate text end old new e is h =
+    subst (λ r. Ends (certify_by r file certificate) old new end) e (subst (λ l. Ends (giving Accepted l) old new end) is h)
+
+pub certify_gives : (file : CodeFile) (certificate : CertificateNumbers) → None ≡ bad_residue file.channel certificate → IsSilent (certify_job file certificate) → ⊥
+certify_gives file certificate e silent =
+    let there : IsSilent (certify_by None file certificate) = subst (λ r. IsSilent (certify_by r file certificate)) (sym e) silent in
+    cc there.nothing

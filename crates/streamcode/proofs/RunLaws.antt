@@ -6,19 +6,19 @@ use Rattle.sc_outside.specs.Faults.{Rose}
 use Rattle.sc_outside.specs.Port.{Told}
 use Rattle.sc_outside.proofs.EndsLaws.{Ends-due, Ends-prefix, IsPrefix-nil}
 use Rattle.sc_outside.proofs.MovesLaws.{Moves-none}
-use Rattle.sc_code.specs.declared.code.CodeFile.{CodeFile}
 use Rattle.sc_codefile.specs.declared.fault.FileFault.{FileFault}
-use Rattle.sc_codefile.specs.Reading.{code_reading}
-use Rattle.streamcode.specs.declared.end.Role.TheVariants.{Code}
+use Rattle.sc_codefile.specs.Reading.{code_reading, certificate_reading}
+use Rattle.streamcode.specs.declared.end.Role.{Role}
+use Rattle.streamcode.specs.declared.end.Role.TheVariants.{Code, Certificate}
 use Rattle.streamcode.specs.declared.end.End.{End}
 use Rattle.streamcode.specs.declared.end.End.TheVariants.{FileTooLong, Usage, ReadFault}
 use Rattle.streamcode.specs.End.{status_of}
-use Rattle.streamcode.specs.Files.{by_code, by_bytes}
-use Rattle.streamcode.specs.Jobs.{refusal, protect_job, check_job}
+use Rattle.streamcode.specs.Files.{by_reading, by_bytes, certificate_plan}
+use Rattle.streamcode.specs.Jobs.{refusal, protect_job, check_job, certify_job}
 use Rattle.streamcode.specs.Plans.{Plan, owes, fetches, most_fetched, due_by, due_of, PlanEnds, IsSilentPlan, LacksOne}
 use Rattle.streamcode.specs.Runs.{command_plan, files_of, IsDueStatus, ReadRose, IsOutsideStatus, IsQuiet}
-use Rattle.sc_words.specs.Words.{Command, lose_word, generate, protect, check}
-use Rattle.streamcode.proofs.JobLaws.{not_inside, of_input_inside, IsRunJob, IsProgramJob, refusal-is, lose_job-is, gen_job-is, protect_job-is, check_job-is, file_refused-is, file_too_long-is}
+use Rattle.sc_words.specs.Words.{Command, lose_word, generate, protect, check, bound, certify}
+use Rattle.streamcode.proofs.JobLaws.{not_inside, of_input_inside, IsRunJob, IsProgramJob, refusal-is, lose_job-is, gen_job-is, protect_job-is, check_job-is, bound_job-is, certify_job-is, file_refused-is, file_too_long-is}
 
 -- ---- what the plans of commands keep
 abbrev IsAmong : List ℕ → List (List ℕ) → Type 0
@@ -44,24 +44,28 @@ run_plan : (names : List (List ℕ)) (plan : Plan) → IsProgramPlan names plan 
 run_plan names (owes job) p = p.run
 run_plan names (fetches name next) p = λ bytes. run_plan names (next bytes) (p.1 bytes)
 
--- what is owed by the bytes of a code file
-reading_plan : (names : List (List ℕ)) (next : CodeFile → Plan) → ((file : CodeFile) → IsProgramPlan names (next file)) → (reading : Result CodeFile FileFault) → IsProgramPlan names (by_code next reading)
-reading_plan names next h (Ok file) = h file
-reading_plan names next h (Err why) = file_refused-is Code why
+-- what is owed by the bytes of a file
+module _ {A : Type 0} (role : Role) (reading : List ℕ → Result A FileFault) (names : List (List ℕ)) (next : A → Plan) (h : (file : A) → IsProgramPlan names (next file)) where
+  reading_plan : (read : Result A FileFault) → IsProgramPlan names (by_reading role reading next read)
+  reading_plan (Ok file) = h file
+  reading_plan (Err why) = file_refused-is role why
 
-bytes_plan_by : (names : List (List ℕ)) (next : CodeFile → Plan) → ((file : CodeFile) → IsProgramPlan names (next file)) → (bytes : List ℕ) (short : Bool)
-    → IsProgramPlan names (if short then by_code next (code_reading bytes) else owes (refusal true (FileTooLong Code)))
-bytes_plan_by names next h bytes true = reading_plan names next h (code_reading bytes)
-bytes_plan_by names next h bytes false = file_too_long-is Code
+  bytes_plan_by : (bytes : List ℕ) (short : Bool) → IsProgramPlan names (if short then by_reading role reading next (reading bytes) else owes (refusal true (FileTooLong role)))
+  bytes_plan_by bytes true = reading_plan (reading bytes)
+  bytes_plan_by bytes false = file_too_long-is role
 
-bytes_plan : (names : List (List ℕ)) (next : CodeFile → Plan) → ((file : CodeFile) → IsProgramPlan names (next file)) → (bytes : List ℕ) → IsProgramPlan names (by_bytes next bytes)
-bytes_plan names next h bytes = bytes_plan_by names next h bytes (nat_lt (length bytes) most_fetched)
+  bytes_plan : (bytes : List ℕ) → IsProgramPlan names (by_bytes role reading next bytes)
+  bytes_plan bytes = bytes_plan_by bytes (nat_lt (length bytes) most_fetched)
 
 program_plan : (command : Command) → IsProgramPlan (files_of (Some command)) (command_plan (Some command))
 program_plan (lose_word channel flags) = lose_job-is channel flags
 program_plan (generate seed count size) = gen_job-is seed count size
-program_plan (protect code size) = (inl refl, λ bytes. bytes_plan (code ∷ []) (λ file. owes (protect_job file size)) (λ file. protect_job-is file size) bytes)
-program_plan (check code workers) = (inl refl, λ bytes. bytes_plan (code ∷ []) (λ file. owes (check_job file)) (λ file. check_job-is file) bytes)
+program_plan (protect code size) = (inl refl, bytes_plan Code code_reading (code ∷ []) (λ file. owes (protect_job file size)) (λ file. protect_job-is file size))
+program_plan (check code workers) = (inl refl, bytes_plan Code code_reading (code ∷ []) (λ file. owes (check_job file)) (λ file. check_job-is file))
+program_plan (bound channel) = bound_job-is channel
+program_plan (certify code cert) =
+    (inl refl, bytes_plan Code code_reading (code ∷ cert ∷ []) (λ file. certificate_plan cert (λ certificate. owes (certify_job file certificate)))
+    (λ file. (inr (inl refl), bytes_plan Certificate certificate_reading (code ∷ cert ∷ []) (λ certificate. owes (certify_job file certificate)) (λ certificate. certify_job-is file certificate))))
 
 is_plan : (command : Option Command) → IsRunPlan (command_plan command)
 is_plan None = refusal-is false Usage

@@ -15,17 +15,19 @@ use Rattle.sc_slots.specs.declared.protect.ProtectFault.{ProtectFault}
 use Rattle.sc_slots.specs.declared.protect.ProtectFault.TheVariants.{TooWide, Dump as Unread, TooManyRecords as TooManyRecordsThere, TooLong, TooManySlots as TooManySlotsThere, Write as Unwritten, Memory as NoRoomThere}
 use Rattle.sc_slots.specs.declared.protect.Protected.{Protected as Done}
 use Rattle.streamcode.specs.declared.end.Role.{Role}
-use Rattle.streamcode.specs.declared.end.Role.TheVariants.{Code}
+use Rattle.streamcode.specs.declared.end.Role.TheVariants.{Code, Certificate}
 use Rattle.streamcode.specs.declared.end.End.{End}
-use Rattle.streamcode.specs.declared.end.End.TheVariants.{Thinned, Generated, Protected, Accepted, Refused, LossRefused, Usage, Capture, MoreRecords, FewerRecords, FileRefused, FileTooLong, PacketTooWide, PacketTooLong, TooManyRecords, TooManySlots, TooManyClasses, ReadFault, WriteFault, NoMemory}
+use Rattle.streamcode.specs.declared.end.End.TheVariants.{Thinned, Generated, Protected, Bound, Accepted, Refused, CertificateRefused, LossRefused, Usage, Capture, MoreRecords, FewerRecords, FileRefused, FileTooLong, PacketTooWide, PacketTooLong, TooManyRecords, TooManySlots, TooManyClasses, ReadFault, WriteFault, NoMemory}
 
 -- the status with which the program ends
 abbrev pub status_of : End → ℕ
 status_of (Thinned dropped) = 0
 status_of (Generated records) = 0
 status_of (Protected done) = 0
+status_of (Bound kept period) = 0
 status_of Accepted = 0
 status_of Refused = 1
+status_of (CertificateRefused residue) = 1
 status_of (LossRefused window) = 1
 status_of Usage = 2
 status_of (Capture fault) = 3
@@ -54,6 +56,7 @@ fault_text Memory = codes "no memory"
 -- what a file is for, and the key at which it is faulty
 abbrev pub role_text : Role → List ℕ
 role_text Code = codes "code"
+role_text Certificate = codes "certificate"
 
 abbrev pub key_text : Key → List ℕ
 key_text Whole = codes "whole"
@@ -81,6 +84,8 @@ text_of (Protected done) =
     codes "slots " ++ decimal done.slots ++ codes " rtcp " ++ decimal done.rtcp ++ codes " cut " ++ decimal done.cut ++ codes " strange " ++ decimal done.strange
 text_of Accepted = codes "accepted"
 text_of Refused = codes "refused"
+text_of (Bound kept period) = codes "bound " ++ decimal kept ++ codes "/" ++ decimal period
+text_of (CertificateRefused residue) = codes "certificate refused at residue " ++ decimal residue
 text_of (LossRefused window) = codes "loss refused at window " ++ decimal window
 text_of Usage = codes "usage"
 text_of (Capture fault) = fault_text fault

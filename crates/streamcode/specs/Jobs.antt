@@ -1,6 +1,7 @@
 -- The jobs of the program's commands, over the input and the output.
-use Rattle.std.specs.Prelude.{◌≡◌, ℕ, Bool, true, false, Option, Some, None, List, [], length, nat_lt}
+use Rattle.std.specs.Prelude.{◌≡◌, ℕ, Bool, true, false, Option, Some, None, List, [], ◌∷◌, ◌++◌, length, nat_lt}
 use Rattle.sc_outside.specs.Ends.{Job, only, at_once, told_as}
+use Rattle.sc_channel.specs.Certificate.{CertificateNumbers}
 use Rattle.sc_channel.specs.Channel.{ChannelNumbers}
 use Rattle.sc_channel.specs.Classes.{class_count}
 use Rattle.sc_check.specs.Answer.{refuted_of}
@@ -8,11 +9,16 @@ use Rattle.sc_channel.specs.Loss.{bad_window}
 use Rattle.sc_rtpdump.specs.Thin.{thinning}
 use Rattle.sc_code.specs.declared.code.CodeFile.{CodeFile}
 use Rattle.sc_slots.specs.Protected.{protecting}
+use Rattle.sc_codefile.specs.CertificateFile.{certificate_text}
+use Rattle.sc_rate.specs.Rate.{kept_count}
+use Rattle.sc_rate.specs.Residue.{bad_residue}
+use Rattle.sc_rate.specs.Standard.{standard_certificate}
 use Rattle.sc_trial.specs.Generated.{generated}
 use Rattle.streamcode.specs.declared.end.End.{End}
-use Rattle.streamcode.specs.declared.end.End.TheVariants.{Generated, LossRefused, TooManyClasses, ReadFault, WriteFault, NoMemory}
+use Rattle.streamcode.specs.declared.end.End.TheVariants.{Generated, Bound, Accepted, CertificateRefused, LossRefused, TooManyClasses, ReadFault, WriteFault, NoMemory}
 use Rattle.streamcode.specs.End.{end_of_drop, end_of_protect}
 use Rattle.streamcode.specs.Verdict.{verdict_end, verdict_text}
+use Rattle.streamcode.specs.Bound.{bound_line}
 
 -- an end that the words decide alone, or the words and the files: nothing is read and nothing given. It may have taken
 -- memory to decide.
@@ -48,6 +54,21 @@ check_by false file =
 
 abbrev pub check_job : CodeFile → Job End
 check_job file = check_by (nat_lt 1000000 (class_count file.channel)) file
+
+-- the standard certificate of a channel is given, and a newline (10)
+abbrev pub bound_by : CertificateNumbers → Job End
+bound_by certificate = giving (Bound (kept_count certificate) certificate.period) (certificate_text certificate ++ 10 ∷ [])
+
+abbrev pub bound_job : ChannelNumbers → Job End
+bound_job channel = bound_by (standard_certificate channel)
+
+-- Whether a channel accepts a certificate: it is refused at a residue; else its bound is given, with the rate of the code.
+abbrev pub certify_by : Option ℕ → CodeFile → CertificateNumbers → Job End
+certify_by (Some residue) file certificate = refusal true (CertificateRefused residue)
+certify_by None file certificate = giving Accepted (bound_line file.code certificate)
+
+abbrev pub certify_job : CodeFile → CertificateNumbers → Job End
+certify_job file certificate = certify_by (bad_residue file.channel certificate) file certificate
 
 -- a job that neither reads nor gives
 pub record IsSilent (job : Job End) : Type 0 where

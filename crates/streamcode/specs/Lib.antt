@@ -1,5 +1,6 @@
 pub mod End
 pub mod Verdict
+pub mod Bound
 pub mod Jobs
 pub mod Plans
 pub mod Files

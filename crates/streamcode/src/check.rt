@@ -2,30 +2,21 @@
 ghost use Rattle.std.specs.Prelude.{◌≡◌, ◌≤◌};
 ghost use Rattle.sc_outside.specs.Ends.{Ends};
 ghost use Rattle.streamcode.specs.Files.{code_plan};
-ghost use Rattle.streamcode.specs.Jobs.{check_job, giving, IsSilent};
+ghost use Rattle.streamcode.specs.Jobs.{check_job, IsSilent};
 ghost use Rattle.streamcode.specs.Plans.{owes, PlanEnds};
 ghost use Rattle.streamcode.specs.Verdict.{verdict_end};
 ghost use Rattle.sc_check.specs.Answer.{told_by};
 
 use crate::end::End;
 use crate::files::fetch_code;
+use crate::give::give;
 use crate::verdict::verdict_lines;
 use sc_channel::{TooManyClasses, loss_classes};
 use sc_check::{Gate, Verdict};
 use sc_code::CodeFile;
-use sc_outside::{Cabinet, Failed, NoMemory, Port, write_whole};
+use sc_outside::{Cabinet, NoMemory, Port};
 use std::alloc::Global;
 use std::thread::Threads;
-
-/// Gives a text that is whole.
-pub(crate) fn give<P: Port>(port: &mut P, text: &[u8], end: End) -> End
-    ensures { Ends (giving end text.now) (P.told port.old) (P.told port.new) result }
-{
-    match write_whole(port, text) {
-        Ok(()) => end,
-        Err(Failed) => End::WriteFault,
-    }
-}
 
 /// The end of a check, by its verdict.
 fn end_of(verdict: &Verdict) -> End

@@ -11,6 +11,8 @@ use sc_slots::{ProtectFault, Protected};
 pub enum Role {
     /// A code, with its channel.
     Code,
+    /// A certificate.
+    Certificate,
 }
 
 /// How a run ends, by its cause. Commands share the ends that they have in common.
@@ -22,10 +24,14 @@ pub enum End {
     Generated(u32),
     /// The capture was protected.
     Protected(Protected),
-    /// The code meets its channel.
+    /// The standard certificate was given, whose bound is this number of kept slots over this period.
+    Bound(u32, u32),
+    /// The code meets its channel, or the channel accepts the certificate.
     Accepted,
     /// The code doesn't meet its channel.
     Refused,
+    /// The channel doesn't accept the certificate: this is the first residue from which its loss isn't admissible.
+    CertificateRefused(u32),
     /// The loss isn't admissible: this window of it is the first that isn't fine.
     LossRefused(usize),
     /// The words have no form.
@@ -59,15 +65,16 @@ pub enum End {
 }
 
 impl End {
-    /// The status with which the program ends: 0 done, 1 a code or a loss was judged and refused, 2 no form of words, 3
+    /// The status with which the program ends: 0 done, 1 a code, a certificate or a loss was judged and refused, 2 no form of words, 3
     /// refused by a file or the input, 4 beyond a limit, 7 a read or a fetch failed, 8 a write failed, 9 no memory, 11 too
     /// many classes.
     pub fn status(&self) -> u8
         ensures { result ≡ status_of self.now }
     {
         match self {
-            End::Thinned(_) | End::Generated(_) | End::Protected(_) | End::Accepted => 0,
-            End::Refused | End::LossRefused(_) => 1,
+            End::Thinned(_) | End::Generated(_) | End::Protected(_) => 0,
+            End::Bound(_, _) | End::Accepted => 0,
+            End::Refused | End::CertificateRefused(_) | End::LossRefused(_) => 1,
             End::Usage => 2,
             End::Capture(_) | End::MoreRecords(_) | End::FewerRecords(_, _) => 3,
             End::FileRefused(_, _) => 3,

@@ -1,10 +1,12 @@
 //! The program: what the words of its command line ask for, and the run that does it.
 #![tactic(auto)]
 
+mod bound;
 mod check;
 mod end;
 mod files;
 mod generate;
+mod give;
 mod lose;
 mod lose_laws;
 mod note;

@@ -77,6 +77,7 @@ fn role_word(role: Role) -> &'static str
 {
     match role {
         Role::Code => "code",
+        Role::Certificate => "certificate",
     }
 }
 
@@ -150,6 +151,13 @@ fn end_note(end: &End) -> Note
         End::Thinned(dropped) => thinned_note(dropped),
         End::Generated(records) => Note::of("records ").number((*records).into()),
         End::Protected(done) => protected_note(done),
+        End::Bound(kept, period) => Note::of("bound ")
+            .number((*kept).into())
+            .word("/")
+            .number((*period).into()),
+        End::CertificateRefused(residue) => {
+            Note::of("certificate refused at residue ").number((*residue).into())
+        }
         End::Accepted => Note::of("accepted"),
         End::Refused => Note::of("refused"),
         End::LossRefused(window) => Note::of("loss refused at window ").number(*window as u64),

@@ -7,6 +7,7 @@ ghost use Rattle.streamcode.specs.Plans.{PlanEnds, due_of, IsSilentPlan, LacksOn
 ghost use Rattle.streamcode.specs.Runs.{command_plan, files_of, plan_of, RunEnds, IsDueStatus, ReadRose, IsOutsideStatus, IsQuiet};
 ghost use Rattle.sc_words.specs.Words.{command_of, texts};
 
+use crate::bound::{bound, certify};
 use crate::check::check;
 use crate::end::End;
 use crate::generate::generate;
@@ -36,6 +37,8 @@ fn perform<R: Threads + Sync, C: Cabinet, P: Port, G: Gate + Sync>(
         Command::LoseWord { channel, flags } => lose(alloc, channel, flags, port),
         Command::Gen { seed, count, size } => generate(alloc, seed, count, size, port),
         Command::Protect { code, size } => protect(alloc, code, size, cabinet, port),
+        Command::Bound { channel } => bound(alloc, channel, port),
+        Command::Certify { code, cert } => certify(alloc, code, cert, cabinet, port),
         Command::Check { code, workers } => check(rt, alloc, code, workers, cabinet, port, gate),
     }
 }

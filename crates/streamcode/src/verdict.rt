@@ -25,7 +25,7 @@ fn push_separator(text: &mut String, character: char, i: usize) -> Result<(), No
 }
 
 /// Puts a number behind a text, in decimal.
-fn push_number(text: &mut String, number: u32) -> Result<(), NoMemory>
+pub(crate) fn push_number(text: &mut String, number: u32) -> Result<(), NoMemory>
     ensures { OnOk result (string_bytes text.new ≡ string_bytes text.old ++ decimal number) }
 {
     let mut buffer = Buffer::new();
@@ -48,7 +48,7 @@ fn push_channel(text: &mut String, channel: &Channel) -> Result<(), NoMemory>
 }
 
 /// Puts the rate of a code behind a text.
-fn push_rate(text: &mut String, code: &ByteCode) -> Result<(), NoMemory>
+pub(crate) fn push_rate(text: &mut String, code: &ByteCode) -> Result<(), NoMemory>
     ensures { OnOk result (string_bytes text.new ≡ string_bytes text.old ++ rate_text code.now) }
 {
     push_number(text, code.k() as u32)?;

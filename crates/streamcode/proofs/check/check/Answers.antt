@@ -1,9 +1,11 @@
 use Rattle.std.proofs.Common.{refl}
 use Rattle.streamcode.specs.Jobs.{check_job}
 use Rattle.streamcode.specs.Plans.{owes}
+use Rattle.sc_codefile.specs.Reading.{code_reading}
+use Rattle.streamcode.specs.declared.end.Role.TheVariants.{Code}
 use Rattle.streamcode.proofs.FileLaws.{came-not, came-file}
 use Rattle.streamcode.proofs.check.check.Goals as goal
 
 pub returns-in-Err : goal.returns-in-Err
 returns-in-Err g c =
-    came-not g.P.Port.told (λ file. owes (check_job file)) _ _ c.args.name.now c.args.port.now c.in-Err.end c.in-Err.ensures
+    came-not Code code_reading g.P.Port.told (λ file. owes (check_job file)) _ _ c.args.name.now c.args.port.now c.in-Err.end c.in-Err.ensures
