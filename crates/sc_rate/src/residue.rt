@@ -17,7 +17,8 @@ pub fn first_bad_residue(cert: &Certificate, channel: &Channel) -> Option<u32>
     ensures answer { MatchOption result (IsAccepted channel.now cert.now) (IsFirstBadResidue channel.now cert.now) }
     ensures accepted { IsNone result ↔ IsAccepted channel.now cert.now }
 {
-    for residue in 0..cert.period() {
+    let period = cert.period();
+    for residue in 0..period {
         if !admits_stretch(channel, cert, residue) {
             return Some(residue);
         }

@@ -7,14 +7,14 @@ pub returns-then-not-admits_stretch-clause-answer :
     goal.returns-then-not-admits_stretch-clause-answer
 returns-then-not-admits_stretch-clause-answer c =
     record {
-      in_period = omega (arith, c.loop-residue-test.true, c.period-residue-end.ensures.number);
+      in_period = omega (arith, c.loop-residue-test.true, c.period-period.ensures.number);
       bad = λ ok. absurd (both_ways _ c.if-not-admits_stretch.true (c.admits_stretch.ensures.1 ok));
       earlier_admissible = c.loop-residue.invariant;
     }
 
 pub returns-clause-answer : goal.returns-clause-answer
 returns-clause-answer c =
-    record { each = λ residue below. c.loop-residue.invariant residue (omega (arith, c.loop-residue-test.false, c.period-residue-end.ensures.number)) }
+    record { each = λ residue below. c.loop-residue.invariant residue (omega (arith, c.loop-residue-test.false, c.period-period.ensures.number)) }
 
 pub returns-then-not-admits_stretch-clause-value :
     goal.returns-then-not-admits_stretch-clause-value
