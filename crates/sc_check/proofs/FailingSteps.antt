@@ -1,5 +1,5 @@
 -- The least index over parts that stand side by side.
-use Rattle.std.proofs.Common.{◌≡◌, ℕ, suc, ◌+◌, ◌*◌, ◌/◌, ◌<◌, ◌≤◌, ◌↔◌, bit_xor, min, Bool, List, [], Option, Some, None, MatchOption, Result, Ok, Err, IfOk, IsTrue, length, get_or, sym, ap, ◌∙◌, subst, arith, inl, inr}
+use Rattle.std.proofs.Common.{◌≡◌, ℕ, ◌+◌, ◌*◌, ◌/◌, ◌<◌, ◌≤◌, ◌↔◌, bit_xor, min, Bool, List, [], Option, Some, None, MatchOption, Result, Ok, Err, IfOk, IsTrue, refl, sym, ap, ◌∙◌, subst, arith, inl, inr}
 use Rattle.std.proofs.lemmas.Bool.{cases_lt, cases_order}
 use Rattle.std.proofs.lemmas.List.{get_or_default}
 use Rattle.std.proofs.lemmas.Nat.{le-div, mul-le}
@@ -15,7 +15,7 @@ use Rattle.sc_code.proofs.ElementLaws.{IsDecidedOver-iff_bytes}
 use Rattle.sc_channel.specs.Flags.{IsSet}
 use Rattle.sc_channel.proofs.SetCountSteps.{IsSet-in_range}
 use Rattle.sc_matrix.specs.Module.{IsByte}
-use Rattle.sc_check.specs.Failing.{class_at, DecidesAt, DecidesAll, IsFirstIn, FirstIn, IsFirstFailing, least_found}
+use Rattle.sc_check.specs.Failing.{DecidesAt, DecidesAll, IsFirstIn, FirstIn, IsFirstFailing, least_found}
 
 -- one class more
 pub decides-more : (code : Code ℕ) (channel : ChannelNumbers) (from index : ℕ) → ((i : ℕ) → from ≤ i → i < index → DecidesAt code channel i) → DecidesAt code channel index → (i : ℕ) → from ≤ i → i < index + 1 → DecidesAt code channel i
@@ -58,6 +58,20 @@ first-of_all code channel from to (Some index) start end first =
       fails = first.fails;
       earlier = λ i lt. first.earlier i (omega arith) lt;
     }
+
+-- there is one such answer
+decides-from_all : (code : Code ℕ) (channel : ChannelNumbers) (index : ℕ) → DecidesAll code channel → index < class_count channel → DecidesAt code channel index
+decides-from_all code channel index all lt = all index [] (omega (arith, length-classes_of channel))
+
+pub first_failing-one : (code : Code ℕ) (channel : ChannelNumbers) (a b : Option ℕ) → MatchOption a (DecidesAll code channel) (IsFirstFailing code channel) → MatchOption b (DecidesAll code channel) (IsFirstFailing code channel) → a ≡ b
+first_failing-one code channel None None x y = refl
+first_failing-one code channel None (Some j) x y = absurd (y.fails (decides-from_all code channel j x y.in_range))
+first_failing-one code channel (Some i) None x y = absurd (x.fails (decides-from_all code channel i y x.in_range))
+first_failing-one code channel (Some i) (Some j) x y =
+    elim (cases_order i j) [
+      | inl same ↦ ap (λ (k : ℕ). Some k) same
+      | inr apart ↦ elim apart [ inl less ↦ absurd (x.fails (y.earlier i less)) | inr more ↦ absurd (y.fails (x.earlier j more)) ]
+    ]
 
 pub all-told : {E : Type 0} (code : Code ℕ) (channel : ChannelNumbers) (parts : ℕ) (r : Result (Option ℕ) E) → 0 < parts → IfOk r (FirstIn code channel (0 * class_count channel / parts) (parts * class_count channel / parts))
     → IfOk r (λ found. MatchOption found (DecidesAll code channel) (IsFirstFailing code channel))

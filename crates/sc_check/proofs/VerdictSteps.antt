@@ -1,6 +1,5 @@
 -- The classes of the list decide exactly where a code meets its channel, and the first that doesn't gives a refutation.
-use Rattle.std.proofs.Common.{◌≡◌, ℕ, ◌+◌, ◌<◌, ◌≤◌, ◌↔◌, Bool, List, [], All, MatchOption, Option, Some, None, Result, Ok, Err, IfOk, length, map, bit_xor, refl, sym, ap, ◌∙◌, subst, arith}
-use Rattle.std.proofs.lemmas.List.{length-map}
+use Rattle.std.proofs.Common.{◌≡◌, ℕ, ◌↔◌, Bool, List, All, MatchOption, Option, Some, None, Result, Ok, Err, IfOk, IfSome, length, bit_xor, refl, ◌∙◌, subst}
 use Rattle.std.proofs.lemmas.List.Elements.{All-weaker}
 use Rattle.sc_field.specs.Field.{IsField, IsAction}
 use Rattle.sc_field.specs.Gf256.{gf256_product}
@@ -8,7 +7,7 @@ use Rattle.sc_field.specs.Laws.Gf256Laws.{gf256_field, gf256_action}
 use Rattle.sc_matrix.specs.Module.{IsByte}
 use Rattle.sc_channel.specs.Channel.{ChannelNumbers, IsChannel, IsOrdered}
 use Rattle.sc_channel.specs.Classes.{classes_of, IsClass}
-use Rattle.sc_channel.proofs.ClassLaws.{All-classes, Contains-class, IsClass-at, length-class, IsSet-class, IsAdmissible-class}
+use Rattle.sc_channel.proofs.ClassLaws.{All-classes, Contains-class, length-class, IsSet-class, IsAdmissible-class}
 use Rattle.sc_channel.proofs.SetCountSteps.{IsSet-in_range}
 use Rattle.sc_code.specs.Code.{Code, IsCode}
 use Rattle.sc_code.specs.Determined.{IsDecided, Meets}
@@ -19,7 +18,7 @@ use Rattle.sc_code.proofs.ClassLaws.{Meets-iff_classes}
 use Rattle.sc_code.proofs.ElementLaws.{IsDecidedOver-iff_bytes}
 use Rattle.sc_window.specs.Difference.{IsLeastDifference, IsByteDifference, IsLeastByteDifference}
 use Rattle.sc_window.proofs.ByteSteps.{IsLeastByteDifference-as_bytes}
-use Rattle.sc_check.specs.Failing.{class_at, DecidesAt, DecidesAll, IsFirstFailing}
+use Rattle.sc_check.specs.Failing.{class_at, DecidesAll, IsFirstFailing}
 use Rattle.sc_check.specs.Verdict.{width_one, IsLeastRefutation, IsVerdict}
 use Rattle.sc_check.specs.declared.verdict.Verdict.{Verdict}
 use Rattle.sc_check.specs.declared.verdict.Verdict.TheVariants.{Meets as meets, Fails}
@@ -42,12 +41,6 @@ module _ {A : Type 0} {IsElement : A → Type 0} {zero one : A} {add sub mul : A
       let listed = DecidesClasses-iff_listed zero act code channel ordered in
       (λ m. listed.0 (classes.0 m), λ all. classes.1 (listed.1 all))
 
--- the class of an index, as a least difference and a refutation want it
-pub class-length : (channel : ChannelNumbers) (class : List Bool) → IsChannel channel → IsClass channel class → length class ≤ 41
-class-length channel class limits is_class =
-    let long = length-class channel class limits.ordered is_class in
-    omega (arith, long, limits.deadline_limit)
-
 -- a class that decides elements isn't the first that fails
 pub not_first_failing : (code : Code ℕ) (channel : ChannelNumbers) (index : ℕ) (loss : List Bool) → IsChannel channel → IsClass channel loss → loss ≡ class_at channel index → IsFirstFailing code channel index
     → IsDecidedOver IsByte 0 bit_xor gf256_product code loss → ⊥
@@ -59,14 +52,18 @@ not_first_failing code channel index loss limits is_class e first decided =
 
 -- the least difference of the first class that fails is the least refutation
 pub least_refutation : (code : Code ℕ) (channel : ChannelNumbers) (index : ℕ) (loss : List Bool) (numbers : List (List ℕ)) → IsCode IsByte code → IsChannel channel → IsClass channel loss → loss ≡ class_at channel index
-    → IsFirstFailing code channel index → IsLeastDifference IsByte 0 bit_xor gf256_product (λ n. n) code loss numbers → IsLeastRefutation code channel index loss numbers
-least_refutation code channel index loss numbers hc limits is_class e first least =
+    → IsFirstFailing code channel index → IsLeastDifference IsByte 0 bit_xor gf256_product (λ n. n) code loss numbers → length numbers ≡ length loss → All (λ block. length block ≡ code.k) numbers
+    → IsLeastRefutation code channel index loss numbers
+least_refutation code channel index loss numbers hc limits is_class e first least blocks symbols =
     let set = IsSet-class channel loss limits.ordered is_class in
     let bytes : IsLeastByteDifference 0 gf256_product code loss (width_one numbers) = IsLeastByteDifference-as_bytes gf256_product code loss numbers (IsSet-in_range loss 0 set) least in
     let d : IsByteDifference 0 gf256_product code loss (width_one numbers) = bytes.belongs in
     record {
       first = first;
       loss_is = e;
+      flags = length-class channel loss limits.ordered is_class;
+      blocks = blocks ∙ length-class channel loss limits.ordered is_class;
+      symbols = symbols;
       least = bytes;
       refutes = IsRefutation-from_undecided gf256_field gf256_action code channel loss (width_one numbers) hc (length-class channel loss limits.ordered is_class) set (IsAdmissible-class channel loss is_class)
           d.stream d.blocks d.zeros d.block_differs;
@@ -89,6 +86,10 @@ told_some code slice class (Some other) numbers same e told =
     let Q : List (List ℕ) → Type 0 = λ ns. IsLeastDifference IsByte 0 bit_xor gf256_product (λ n. n) code slice ns in
     let at : other ≡ numbers = cc in
     subst P same (subst Q at told)
+
+pub told_of : {X : Type 0} (P : X → Type 0) (found : Option X) (x : X) → found ≡ Some x → IfSome found P → P x
+told_of P None x e told = absurd (cc)
+told_of P (Some y) x e told = let at : y ≡ x = cc in subst P at told
 
 -- where all classes decide the code meets the channel
 pub meets-from_all : (code : Code ℕ) (given channel : ChannelNumbers) → IsCode IsByte code → IsChannel channel → given ≡ channel → DecidesAll code given → Meets 0 gf256_product code channel

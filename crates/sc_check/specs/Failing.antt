@@ -1,5 +1,5 @@
 -- The classes of a channel that a code doesn't decide, by their indices.
-use Rattle.std.specs.Prelude.{◌≡◌, ℕ, ◌≤◌, ◌<◌, List, [], Bool, All, Option, Some, None, MatchOption, min, slice_index_or}
+use Rattle.std.specs.Prelude.{ℕ, ◌≤◌, ◌<◌, List, [], Bool, All, Option, Some, None, MatchOption, min, slice_index_or}
 use Rattle.sc_field.specs.Gf256.{gf256_product}
 use Rattle.sc_channel.specs.Channel.{ChannelNumbers}
 use Rattle.sc_channel.specs.Classes.{classes_of, class_count}

@@ -1,5 +1,5 @@
 -- What a check tells of a code and a channel.
-use Rattle.std.specs.Prelude.{◌≡◌, ℕ, List, [], ◌∷◌, Bool, map}
+use Rattle.std.specs.Prelude.{◌≡◌, ℕ, ◌+◌, List, [], ◌∷◌, Bool, All, length, map}
 use Rattle.sc_field.specs.Gf256.{gf256_product}
 use Rattle.sc_channel.specs.Channel.{ChannelNumbers}
 use Rattle.sc_code.specs.Code.{Code}
@@ -18,6 +18,9 @@ width_one numbers = map (map (λ number. number ∷ [])) numbers
 pub record IsLeastRefutation (code : Code ℕ) (channel : ChannelNumbers) (class : ℕ) (loss : List Bool) (stream : List (List ℕ)) : Type 0 where
   pub first : IsFirstFailing code channel class
   pub loss_is : loss ≡ class_at channel class
+  pub flags : length loss ≡ channel.t + 1
+  pub blocks : length stream ≡ channel.t + 1
+  pub symbols : All (λ block. length block ≡ code.k) stream
   pub least : IsLeastByteDifference 0 gf256_product code loss (width_one stream)
   pub refutes : IsRefutation 0 gf256_product code channel loss (width_one stream)
 

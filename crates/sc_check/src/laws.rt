@@ -1,10 +1,11 @@
-//! The law that the check stands on. The function does nothing: its contract is the law.
+//! Laws of the check. The functions do nothing: each has a law as its contract.
 
-ghost use Rattle.std.specs.Prelude.{◌↔◌, All};
+ghost use Rattle.std.specs.Prelude.{◌≡◌, ◌↔◌, ℕ, Option, All, MatchOption};
 ghost use Rattle.sc_channel.specs.Channel.{ChannelNumbers, IsOrdered};
 ghost use Rattle.sc_channel.specs.Classes.{classes_of};
 ghost use Rattle.sc_code.specs.Code.{Code as CodeOf, IsCode};
 ghost use Rattle.sc_code.specs.Determined.{IsDecided, Meets};
+ghost use Rattle.sc_check.specs.Failing.{DecidesAll, IsFirstFailing};
 
 use sc_field::Field;
 
@@ -13,4 +14,11 @@ use sc_field::Field;
 pub fn meets_where_classes_decide<F: Field>()
     ensures { (code : CodeOf F) (channel : ChannelNumbers) → IsCode F.IsElement code → IsOrdered channel.w channel.b channel.n channel.t
         → Meets F.zero F.act code channel ↔ All (IsDecided F.zero F.act code) (classes_of channel) }
+{}
+
+/// There is one answer to which class is the first that a code doesn't decide. So whatever the workers are, the answer is the
+/// same.
+pub fn one_first_failing()
+    ensures { (code : CodeOf ℕ) (channel : ChannelNumbers) (a b : Option ℕ) → MatchOption a (DecidesAll code channel) (IsFirstFailing code channel)
+        → MatchOption b (DecidesAll code channel) (IsFirstFailing code channel) → a ≡ b }
 {}

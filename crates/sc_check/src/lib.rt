@@ -8,5 +8,8 @@ mod verdict;
 
 pub use failing::{MAX_WORKERS, first_failing};
 pub use gate::{Gate, NoGate};
-pub use laws::meets_where_classes_decide;
+pub use laws::{meets_where_classes_decide, one_first_failing};
 pub use verdict::{Verdict, check};
+
+#[cfg(test)]
+mod tests;

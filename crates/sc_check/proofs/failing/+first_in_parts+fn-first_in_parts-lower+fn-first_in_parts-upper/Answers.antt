@@ -1,4 +1,4 @@
-use Rattle.std.proofs.Common.{◌≡◌, ◌+◌, ◌-◌, ◌*◌, ◌/◌, ℕ, Option, arith, sym, subst}
+use Rattle.std.proofs.Common.{◌+◌, ◌-◌, ◌*◌, ◌/◌, arith}
 use Rattle.std.proofs.lemmas.Result.{IfOk-at_ok}
 use Rattle.sc_channel.specs.Classes.{class_count}
 use Rattle.sc_check.specs.Failing.{FirstIn}
@@ -16,5 +16,5 @@ returns g t c =
     (FirstIn-least code channel (c.args.from * count / parts) (middle * count / parts) (c.args.to * count / parts) c.in_ok-left.field-0 c.in_ok-right.field-0
     (start-mono c.args.from middle count parts (omega arith) (omega arith))
     (start-mono middle c.args.to count parts (omega arith) (omega arith))
-    (IfOk-at_ok (FirstIn code channel (c.args.from * count / parts) (middle * count / parts)) c.in_ok-left.was c.join-left.ensures.first)
-    (IfOk-at_ok (FirstIn code channel (middle * count / parts) (c.args.to * count / parts)) c.in_ok-right.was c.join-left.ensures.second))
+    (IfOk-at_ok (FirstIn code channel (c.args.from * count / parts) (middle * count / parts)) {r = c.join-left.result.0} c.in_ok-left.was c.join-left.ensures.first)
+    (IfOk-at_ok (FirstIn code channel (middle * count / parts) (c.args.to * count / parts)) {r = c.join-left.result.1} c.in_ok-right.was c.join-left.ensures.second))

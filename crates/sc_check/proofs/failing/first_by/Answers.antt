@@ -1,4 +1,4 @@
-use Rattle.std.proofs.Common.{sym, subst, Bool, List}
+use Rattle.std.proofs.Common.{subst, Bool, List}
 use Rattle.sc_field.specs.Gf256.{gf256_product}
 use Rattle.sc_code.specs.Determined.{IsDecided}
 use Rattle.sc_check.specs.Failing.{DecidesAt}
