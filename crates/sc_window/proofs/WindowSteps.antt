@@ -193,17 +193,19 @@ module _ {A : Type 0} {IsElement : A → Type 0} {zero one : A} {add sub mul : A
     λ kernel.
         let hv : IsVector IsElement (code.k * set_count class) v = record { width = kernel.width; entries = kernel.elements } in
         let stream = IsLostStream-spelled zero laws.zero_element code.k class v hv in
-        let slots = rows_to_slots zero code class (λ row. dot zero add mul row v ≡ zero) 0 class kernel.zeros in
-        (hv, λ t kept.
-        let e : 0 + t ≡ t = omega arith in
-        record {
-          symbols = stream.zeros t kept;
-          parities = λ j hj.
-              sym (dot-parity code t j class (spelled zero code.k class v) hc (IsKept-in_range class t kept) stream)
-              ∙ ap (dot zero add mul (window_row zero code t j 0 class)) (lost_symbols-spelled zero code.k class v hv)
-              ∙ ap (λ (u : ℕ). dot zero add mul (window_row zero code u j 0 class) v) (sym e)
-              ∙ slots t kept j hj;
-        }),
+        let slots = rows_to_slots zero code class (λ row. dot zero add mul row v ≡ zero) 0 class kernel.zeros in (
+          hv,
+          λ t kept.
+              let e : 0 + t ≡ t = omega arith in
+              record {
+                symbols = stream.zeros t kept;
+                parities = λ j hj.
+                    sym (dot-parity code t j class (spelled zero code.k class v) hc (IsKept-in_range class t kept) stream)
+                    ∙ ap (dot zero add mul (window_row zero code t j 0 class)) (lost_symbols-spelled zero code.k class v hv)
+                    ∙ ap (λ (u : ℕ). dot zero add mul (window_row zero code u j 0 class) v) (sym e)
+                    ∙ slots t kept j hj;
+              },
+        ),
     λ spells.
         let hv = spells.0 in
         let stream = IsLostStream-spelled zero laws.zero_element code.k class v hv in
@@ -211,10 +213,10 @@ module _ {A : Type 0} {IsElement : A → Type 0} {zero one : A} {add sub mul : A
           width = hv.width;
           elements = hv.entries;
           zeros = rows_from_slots zero code class (λ row. dot zero add mul row v ≡ zero) 0 class (λ t kept j hj.
-          let e : 0 + t ≡ t = omega arith in
-          ap (λ (u : ℕ). dot zero add mul (window_row zero code u j 0 class) v) e
-          ∙ ap (dot zero add mul (window_row zero code t j 0 class)) (sym (lost_symbols-spelled zero code.k class v hv))
-          ∙ dot-parity code t j class (spelled zero code.k class v) hc (IsKept-in_range class t kept) stream
-          ∙ (spells.1 t kept).parities j hj);
+              let e : 0 + t ≡ t = omega arith in
+              ap (λ (u : ℕ). dot zero add mul (window_row zero code u j 0 class) v) e
+              ∙ ap (dot zero add mul (window_row zero code t j 0 class)) (sym (lost_symbols-spelled zero code.k class v hv))
+              ∙ dot-parity code t j class (spelled zero code.k class v) hc (IsKept-in_range class t kept) stream
+              ∙ (spells.1 t kept).parities j hj);
         },
   )
