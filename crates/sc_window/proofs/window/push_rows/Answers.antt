@@ -1,6 +1,5 @@
-use Rattle.std.proofs.Common.{◌≡◌, ◌≤◌, ◌++◌, ◌+◌, ◌*◌, ℕ, List, length, drop, sym, ap, ◌∙◌, subst, arith}
+use Rattle.std.proofs.Common.{◌++◌, ◌+◌, drop, ap, ◌∙◌, arith}
 use Rattle.std.proofs.lemmas.List.{length-append}
-use Rattle.sc_channel.specs.Flags.{set_count}
 use Rattle.sc_matrix.specs.Matrix.{row_count}
 use Rattle.sc_window.specs.Rows.{slot_rows, window_rows}
 use Rattle.sc_window.proofs.RowSteps.{rows_lost, rows_kept, length-slot_rows}

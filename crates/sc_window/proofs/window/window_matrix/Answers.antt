@@ -1,4 +1,4 @@
-use Rattle.std.proofs.Common.{◌≡◌, ◌↔◌, ◌≤◌, ◌-◌, ◌*◌, ℕ, length, sym, ap, ◌∙◌, subst}
+use Rattle.std.proofs.Common.{◌↔◌, ◌*◌, length, sym, ap, ◌∙◌, subst}
 use Rattle.sc_channel.specs.Flags.{set_count}
 use Rattle.sc_matrix.specs.Vector.{IsVector}
 use Rattle.sc_matrix.specs.Matrix.{row_count}

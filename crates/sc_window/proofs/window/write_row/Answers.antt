@@ -1,4 +1,4 @@
-use Rattle.std.proofs.Common.{◌≡◌, ◌++◌, ◌+◌, ℕ, List, length, map, drop, ap, ◌∙◌}
+use Rattle.std.proofs.Common.{◌++◌, ◌+◌, ℕ, List, map, drop, ap, ◌∙◌}
 use Rattle.sc_window.specs.Rows.{window_row}
 use Rattle.sc_window.proofs.RowSteps.{row_lost, row_kept}
 use Rattle.sc_window.proofs.window.write_row.Goals as goal
