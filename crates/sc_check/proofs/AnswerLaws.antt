@@ -19,13 +19,16 @@ use Rattle.sc_field.specs.Gf256.{gf256_product}
 use Rattle.sc_matrix.specs.Layout.{cut}
 use Rattle.sc_matrix.proofs.LayoutLaws.{length-cut, get_or-cut, vectors-cut}
 use Rattle.sc_channel.specs.Channel.{ChannelNumbers, IsChannel, IsOrdered}
-use Rattle.sc_channel.specs.Classes.{classes_of, IsClass}
-use Rattle.sc_channel.proofs.ClassLaws.{All-classes, length-classes_of, length-class, IsSet-class}
+use Rattle.sc_channel.specs.Classes.{classes_of, class_count, IsClass}
+use Rattle.sc_channel.proofs.ClassLaws.{All-classes, IsClass-at, length-classes_of, IsSet-class}
 use Rattle.sc_channel.proofs.SetCountSteps.{IsSet-in_range}
-use Rattle.sc_code.specs.Code.{Code}
+use Rattle.sc_field.specs.Laws.Gf256Laws.{gf256_field, gf256_action}
+use Rattle.sc_code.specs.Code.{Code, IsCode}
 use Rattle.sc_code.proofs.ElementLaws.{IsDecidedOver-iff_bytes}
 use Rattle.sc_check.specs.Failing.{class_at, DecidesAll, IsFirstFailing}
-use Rattle.sc_code.specs.Determined.{IsKept}
+use Rattle.sc_check.specs.Verdict.{IsLeastRefutation}
+use Rattle.sc_check.proofs.VerdictSteps.{Meets-iff_listed, least_refutation}
+use Rattle.sc_code.specs.Determined.{IsKept, Meets}
 use Rattle.sc_code.specs.Elements.{element_at, IsZeroElements, IsDecidedOver}
 use Rattle.sc_code.specs.Parity.{parity_symbol}
 use Rattle.sc_window.specs.Window.{symbols_of}
@@ -450,13 +453,40 @@ answer-fails code channel index loss numbers limits e first least =
     ap (λ l. Some (record { index = index; class = l; stream = numbers })) e
     ∙ ap (λ n. Some (record { index = n; class = class_at channel index; stream = numbers })) at ∙ sym found
 
--- a least difference has a block for each flag, each of k symbols
-pub least-shape : (code : Code ℕ) (channel : ChannelNumbers) (loss : List Bool) (numbers : List (List ℕ)) → IsChannel channel → IsClass channel loss
-    → IsLeastDifference IsByte 0 bit_xor gf256_product (λ n. n) code loss numbers → (length numbers ≡ channel.t + 1) × All (λ block. length block ≡ code.k) numbers
-least-shape code channel loss numbers limits is h =
-    let same : numbers ≡ h.stream = h.are_numbers ∙ numbers_same h.stream in
-    let d = h.is_least.belongs in
+-- ---- the answer in the words of codes
+-- a class that has a least difference doesn't decide
+not_decided : (code : Code ℕ) (loss : List Bool) (numbers : List (List ℕ)) → IsLeastDifference IsByte 0 bit_xor gf256_product (λ n. n) code loss numbers → IsDecidedClass code loss → ⊥
+not_decided code loss numbers least decided =
+    let d = least.is_least.belongs in
+    d.block_differs (decided least.stream d.blocks d.count d.zeros)
+
+-- no refutation is found exactly where the code meets the channel
+pub answer-none : (code : Code ℕ) (channel : ChannelNumbers) → IsCode IsByte code → IsChannel channel → (refuted_of code channel ≡ None) ↔ Meets 0 gf256_product code channel
+answer-none code channel hc limits =
+    let some = classes-some channel limits.ordered in
+    let listed = Meets-iff_listed gf256_field gf256_action code channel hc limits.ordered in
     (
-      ap length same ∙ d.count ∙ length-class channel loss limits.ordered is,
-      subst (All (λ block. length block ≡ code.k)) (sym same) (λ i e lt. (d.blocks i e lt).width),
+      λ none. listed.1 (λ i d lt. (IsDecidedOver-iff_bytes gf256_product code (get_or (classes_of channel) i d) (some i d lt)).0 (decided-none code 0 (classes_of channel) some none i d lt)),
+      λ m. answer-meets code channel channel limits refl (listed.0 m),
     )
+
+-- one that is found is the least refutation
+pub answer-some : (code : Code ℕ) (channel : ChannelNumbers) (r : Refuted) → IsCode IsByte code → IsChannel channel → refuted_of code channel ≡ Some r → IsLeastRefutation code channel r.index r.class r.stream
+answer-some code channel r hc limits is =
+    let some = classes-some channel limits.ordered in
+    let count = length-classes_of channel in
+    let h = first-refuted code 0 (classes_of channel) r some is in
+    let at : r.index ≡ h.place = h.index_is ∙ (omega arith) in
+    let class_is : r.class ≡ class_at channel r.index = h.class_is ∙ ap (λ n. get_or (classes_of channel) n []) (sym at) in
+    let within : r.index < class_count channel = omega (arith, at, h.within, count) in
+    let is_class : IsClass channel r.class = subst (IsClass channel) (sym class_is) (IsClass-at channel r.index limits.ordered within) in
+    let first : IsFirstFailing code channel r.index = record {
+      in_range = within;
+      fails = λ decided. not_decided code r.class r.stream h.least
+          (subst (IsDecidedClass code) (sym class_is) ((IsDecidedOver-iff_bytes gf256_product code (class_at channel r.index) (some r.index [] (omega (arith, count, within)))).1 decided));
+      earlier = λ i lt. (IsDecidedOver-iff_bytes gf256_product code (class_at channel i) (some i [] (omega (arith, count, within, lt)))).0 (h.earlier i (omega (arith, at, lt)));
+    } in
+    let same : r.stream ≡ h.least.stream = h.least.are_numbers ∙ numbers_same h.least.stream in
+    let d = h.least.is_least.belongs in
+    least_refutation code channel r.index r.class r.stream hc limits is_class class_is first h.least (ap length same ∙ d.count)
+    (subst (All (λ block. length block ≡ code.k)) (sym same) (λ i e lt. (d.blocks i e lt).width))

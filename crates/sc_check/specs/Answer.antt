@@ -1,6 +1,6 @@
 -- What a check answers, as a function of a code over GF(256) and of the classes: the first class that isn't decided, and the
 -- first stream that shows it. A stream is a list of blocks, each a list of the numbers of its symbols.
-use Rattle.std.specs.Prelude.{◌≡◌, ℕ, zero as naught, suc, ◌+◌, ◌*◌, All, ◌==◌, ◌&&◌, ◌||◌, Bool, true, List, [], ◌∷◌, length, Option, Some, None, slice_index_or, bit_xor, not, if◌then◌else◌}
+use Rattle.std.specs.Prelude.{◌≡◌, ℕ, zero as naught, suc, ◌*◌, ◌==◌, ◌&&◌, ◌||◌, Bool, true, List, [], ◌∷◌, length, Option, Some, None, slice_index_or, bit_xor, not, if◌then◌else◌}
 use Rattle.std.specs.List.{list_all, range_with_len}
 use Rattle.std.specs.Option.{option_map}
 use Rattle.sc_channel.specs.Channel.{ChannelNumbers}
@@ -59,8 +59,3 @@ refuted_of code channel = first_refuted code 0 (classes_of channel)
 abbrev pub told_by : Verdict → Option Refuted
 told_by Meets = None
 told_by (Fails class loss stream) = Some (record { index = class; class = loss; stream = stream })
-
--- the stream of a verdict has t + 1 blocks of k symbols
-abbrev pub IsShaped : ℕ → ℕ → Verdict → Type 0
-IsShaped t k Meets = Unit {0}
-IsShaped t k (Fails class loss stream) = (length stream ≡ t + 1) × All (λ block. length block ≡ k) stream

@@ -8,7 +8,7 @@ mod verdict;
 
 pub use failing::{MAX_WORKERS, first_failing};
 pub use gate::{Gate, NoGate};
-pub use laws::{meets_where_classes_decide, one_first_failing};
+pub use laws::{answers_are_right, meets_where_classes_decide, one_first_failing};
 pub use verdict::{Verdict, check};
 
 #[cfg(test)]

@@ -6,7 +6,7 @@ ghost use Rattle.sc_channel.specs.Channel.{IsChannel};
 ghost use Rattle.sc_matrix.specs.Module.{IsByte};
 ghost use Rattle.sc_code.specs.Code.{IsCode};
 ghost use Rattle.sc_code.specs.Determined.{Meets};
-ghost use Rattle.sc_check.specs.Answer.{refuted_of, told_by, IsShaped};
+ghost use Rattle.sc_check.specs.Answer.{refuted_of, told_by};
 ghost use Rattle.sc_check.specs.Failing.{IsFirstFailing};
 ghost use Rattle.sc_check.specs.Verdict.{IsVerdict};
 
@@ -54,7 +54,6 @@ pub fn check<R: Threads + Sync, G: Gate + Sync>(
     ensures verdict { IfOk result (IsVerdict file.now.code file.now.channel) }
     ensures meets { IfOk result (λ verdict. (verdict ≡ Verdict.Meets) ↔ Meets 0 gf256_product file.now.code file.now.channel) }
     ensures answer { IfOk result (λ verdict. told_by verdict ≡ refuted_of file.now.code file.now.channel) }
-    ensures shape { IfOk result (IsShaped file.now.channel.t file.now.code.k) }
 {
     keep_limits(&file.code, &file.channel);
     match first_failing(rt, alloc, &file.code, classes, workers, gate)? {
@@ -83,7 +82,6 @@ fn refutation(
     requires first { IsFirstFailing code.now classes.now index }
     ensures verdict { IfOk result (IsVerdict code.now classes.now) }
     ensures answer { IfOk result (λ verdict. told_by verdict ≡ refuted_of code.now classes.now) }
-    ensures shape { IfOk result (IsShaped classes.now.t code.now.k) }
 {
     let loss = classes.class(alloc, index)?;
     match least_difference(alloc, code, loss.as_slice())? {

@@ -1,4 +1,8 @@
--- Why an accepted certificate bounds the rate of every causal code. No crate above wants these: the contracts say it all.
+-- Why an accepted certificate bounds the rate of every causal code. The law that crates above want:
+--
+--   ResidueLaws    bad_residue-answers: what the first bad residue tells, as a function
+--
+-- The other files:
 --
 --   PowerSteps     powers: from a bound on long words to one on a period
 --   WordSteps      how many words there are of a length
@@ -18,3 +22,4 @@ pub mod AttainedSteps
 pub mod ByteCodeSteps
 pub mod StandardSteps
 pub mod ResidueSteps
+pub mod ResidueLaws

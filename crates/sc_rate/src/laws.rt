@@ -1,6 +1,6 @@
 //! The laws of accepted certificates. The functions do nothing: each has a law as its contract.
 
-ghost use Rattle.std.specs.Prelude.{ℕ, ◌+◌, ◌*◌, ◌≤◌};
+ghost use Rattle.std.specs.Prelude.{ℕ, MatchOption, ◌+◌, ◌*◌, ◌≤◌};
 ghost use Rattle.sc_field.specs.Gf256.{gf256_product};
 ghost use Rattle.sc_matrix.specs.Module.{IsByte};
 ghost use Rattle.sc_channel.specs.Channel.{ChannelNumbers, IsChannel};
@@ -8,6 +8,7 @@ ghost use Rattle.sc_channel.specs.Certificate.{CertificateNumbers, IsCertificate
 ghost use Rattle.sc_code.specs.Code.{Code as CodeOf, IsCode};
 ghost use Rattle.sc_code.specs.Determined.{Meets};
 ghost use Rattle.sc_rate.specs.Rate.{BoundsRate, BoundsByteRate, BoundIsAttained, kept_count};
+ghost use Rattle.sc_rate.specs.Residue.{IsFirstBadResidue, bad_residue};
 ghost use Rattle.sc_rate.specs.Standard.{standard_certificate};
 
 /// An accepted certificate bounds the rate of every causal code that meets the channel, whatever the code is made of: with
@@ -31,4 +32,11 @@ pub fn standard_is_accepted()
 pub fn accepted_certificates_bound_byte_codes()
     ensures { (code : CodeOf ℕ) (channel : ChannelNumbers) (certificate : CertificateNumbers) → IsCode IsByte code → Meets 0 gf256_product code channel
         → IsCertificate certificate → IsAccepted channel certificate → code.k * certificate.period ≤ kept_count certificate * (code.k + code.r) }
+{}
+
+/// The first bad residue as a function: there is none exactly where the channel accepts the certificate, and else it is the
+/// first from which the periodic loss isn't admissible.
+pub fn bad_residue_answers()
+    ensures { (channel : ChannelNumbers) (certificate : CertificateNumbers)
+        → MatchOption (bad_residue channel certificate) (IsAccepted channel certificate) (IsFirstBadResidue channel certificate) }
 {}

@@ -7,10 +7,10 @@ mod rate;
 mod residue;
 
 pub use laws::{
-    accepted_certificates_bound_byte_codes, certificate_bounds_rate, standard_is_accepted,
+    accepted_certificates_bound_byte_codes, bad_residue_answers, certificate_bounds_rate, standard_is_accepted,
 };
 pub use make_standard::{standard, standard_numbers};
-pub use rate::{Rate, compare};
+pub use rate::{Rate, compare, kept_slots};
 pub use residue::first_bad_residue;
 
 #[cfg(test)]

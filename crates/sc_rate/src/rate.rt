@@ -1,9 +1,9 @@
 //! The rate of a code beside the bound of a certificate.
 
-ghost use Rattle.std.specs.Prelude.{◌≡◌, ◌≢◌, ◌↔◌, ◌+◌, ◌*◌, ◌<◌};
+ghost use Rattle.std.specs.Prelude.{◌≡◌, ◌≢◌, ◌↔◌, ◌+◌, ◌*◌, ◌<◌, ◌≤◌};
 ghost use Rattle.sc_field.specs.Gf256.{gf256_product};
 ghost use Rattle.sc_channel.specs.Channel.{ChannelNumbers};
-ghost use Rattle.sc_channel.specs.Certificate.{IsAccepted};
+ghost use Rattle.sc_channel.specs.Certificate.{IsAccepted, IsCertificate};
 ghost use Rattle.sc_code.specs.Determined.{Meets};
 ghost use Rattle.sc_rate.specs.Rate.{kept_count};
 ghost use Rattle.sc_rate.specs.Compared.{beside, compared};
@@ -24,6 +24,15 @@ pub enum Rate {
     Above,
 }
 
+/// How many slots of a period a certificate keeps: its period less its lost residues.
+pub fn kept_slots(cert: &Certificate) -> u32
+    ensures kept { result ≡ kept_count cert.now }
+    ensures bound { result ≤ cert.now.period }
+    ensures limits { IsCertificate cert.now }
+{
+    cert.period() - cert.lost().len() as u32
+}
+
 /// How the rate of a code, `k` symbols of a block out of the `k + r` that are sent in a slot, stands to the bound of a
 /// certificate, its kept slots out of its period: as `k * P` to `(P - l) * (k + r)`, for the period `P` and `l` lost residues.
 /// `Above` never comes where the code meets a channel that accepts the certificate. It takes no memory.
@@ -35,7 +44,7 @@ pub fn compare(code: &ByteCode, cert: &Certificate) -> Rate
     ensures bounded { (channel : ChannelNumbers) → Meets 0 gf256_product code.now channel → IsAccepted channel cert.now → result ≢ Above }
 {
     let period = cert.period() as usize;
-    let kept = period - cert.lost().len();
+    let kept = kept_slots(cert) as usize;
     rate_of(code.k() * period, kept * (code.k() + code.r()))
 }
 

@@ -14,7 +14,7 @@ use sc_channel::{Certificate, Channel};
 use sc_code::{ByteCode, CodeFile};
 use sc_codefile::print_certificate;
 use sc_outside::{Cabinet, NoMemory, Port};
-use sc_rate::{Rate, compare, first_bad_residue, standard};
+use sc_rate::{Rate, compare, first_bad_residue, kept_slots, standard};
 use std::alloc::Global;
 
 /// Gives the standard certificate of a channel.
@@ -32,9 +32,8 @@ pub(crate) fn bound<P: Port>(alloc: Global, channel: Channel, port: &mut P) -> E
     if text.push(b'\n').is_err() {
         return End::NoMemory;
     }
-    let period = certificate.period();
-    let kept = period - certificate.lost().len() as u32;
-    give(port, text.as_slice(), End::Bound(kept, period))
+    let end = End::Bound(kept_slots(&certificate), certificate.period());
+    give(port, text.as_slice(), end)
 }
 
 /// How a code's rate stands to a bound, in a word.
@@ -56,11 +55,10 @@ fn accepted_line(
 ) -> Result<String, NoMemory>
     ensures { IfOk result (λ text. string_bytes text ≡ bound_line code.now certificate.now) }
 {
-    let period = certificate.period();
     let mut text = String::from_str(alloc, "bound ")?;
-    push_number(&mut text, period - certificate.lost().len() as u32)?;
+    push_number(&mut text, kept_slots(certificate))?;
     text.push('/')?;
-    push_number(&mut text, period)?;
+    push_number(&mut text, certificate.period())?;
     text.push_str(" code ")?;
     push_rate(&mut text, code)?;
     text.push(' ')?;

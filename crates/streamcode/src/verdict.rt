@@ -2,7 +2,8 @@
 ghost use Rattle.std.specs.Prelude.{◌≡◌, ◌<◌, ◌≤◌, ◌+◌, ◌++◌, [], All, replicate, IfOk, OnOk, length, map, string_bytes, slice_index_or};
 ghost use Rattle.std.specs.Fmt.{decimal};
 ghost use Rattle.sc_channel.specs.Classes.{class_count};
-ghost use Rattle.sc_check.specs.Answer.{told_by, IsShaped};
+ghost use Rattle.sc_check.specs.Answer.{told_by};
+ghost use Rattle.sc_check.specs.Verdict.{IsVerdict};
 ghost use Rattle.sc_words.specs.Forms.{character_of};
 ghost use Rattle.streamcode.specs.Verdict.{block_text, stream_text, channel_text, rate_text, meets_text, fails_text, verdict_text, separator};
 
@@ -151,7 +152,7 @@ pub(crate) fn verdict_lines(
     verdict: &Verdict,
 ) -> Result<String, NoMemory>
     requires count { count ≡ class_count file.now.channel }
-    requires shape { IsShaped file.now.channel.t file.now.code.k verdict.now }
+    requires verdict { IsVerdict file.now.code file.now.channel verdict.now }
     ensures { IfOk result (λ text. string_bytes text ≡ verdict_text file.now (told_by verdict.now)) }
 {
     match verdict {

@@ -24,6 +24,3 @@ returns-in-None-clause-answer g c =
 
 pub returns-in-Some-clause-answer : goal.returns-in-Some-clause-answer
 returns-in-Some-clause-answer g c = rw c.requires.channel at c.refutation.ensures.answer
-
-pub returns-in-Some-clause-shape : goal.returns-in-Some-clause-shape
-returns-in-Some-clause-shape g c = rw c.requires.channel at c.refutation.ensures.shape

@@ -1,4 +1,4 @@
-use Rattle.sc_check.proofs.AnswerLaws.{answer-fails, least-shape}
+use Rattle.sc_check.proofs.AnswerLaws.{answer-fails}
 use Rattle.std.proofs.Common.{◌≡◌, ℕ, List, All, length, ap, ◌∙◌}
 use Rattle.sc_check.proofs.VerdictSteps.{not_first_failing, least_refutation, told_none, told_some, told_of}
 use Rattle.sc_check.proofs.verdict.refutation.Goals as goal
@@ -19,9 +19,4 @@ returns-clause-verdict c =
 pub returns-clause-answer : goal.returns-clause-answer
 returns-clause-answer c =
     answer-fails c.args.code.now c.args.classes.now c.args.index c.in_ok-loss.loss c.in-Some.stream c.in_ok-loss.ensures.limits c.in_ok-loss.ensures.class c.requires.first
-    (told_some c.args.code.now c.as_slice.result.now c.in_ok-loss.loss c.in_ok-stream.field-0 c.in-Some.stream c.as_slice.ensures c.in-Some.is c.in_ok-stream.ensures.least)
-
-pub returns-clause-shape : goal.returns-clause-shape
-returns-clause-shape c =
-    least-shape c.args.code.now c.args.classes.now c.in_ok-loss.loss c.in-Some.stream c.in_ok-loss.ensures.limits c.in_ok-loss.ensures.is_class
     (told_some c.args.code.now c.as_slice.result.now c.in_ok-loss.loss c.in_ok-stream.field-0 c.in-Some.stream c.as_slice.ensures c.in-Some.is c.in_ok-stream.ensures.least)
