@@ -1,7 +1,7 @@
 -- Over the bytes as elements of a field, a difference in elements is one in streams of width 1, and the least is the least.
-use Rattle.std.proofs.Common.{◌≡◌, ◌≢◌, ◌⊎◌, ℕ, zero as naught, suc, ◌+◌, ◌<◌, ◌≤◌, Bool, List, [], ◌∷◌, ◌++◌, length, get_or, map, replicate, All, bit_xor, refl, sym, ap, ap₂, ◌∙◌, subst, arith, inl, inr}
+use Rattle.std.proofs.Common.{◌≡◌, ℕ, zero as naught, suc, ◌<◌, ◌≤◌, Bool, List, [], ◌∷◌, ◌++◌, length, get_or, map, replicate, All, bit_xor, refl, sym, ap, ap₂, ◌∙◌, subst, arith, inl, inr}
 use Rattle.std.proofs.lemmas.Bool.{cases_lt}
-use Rattle.std.proofs.lemmas.List.{length-map, map-append, map-id, get_or-map, get_or_past, get_or-replicate, length-replicate}
+use Rattle.std.proofs.lemmas.List.{length-map, map-append, map-id, get_or-map, get_or_past}
 use Rattle.std.proofs.lemmas.List.Elements.{All-nil, All-cons, All-head, All-tail, All-map}
 use Rattle.sc_matrix.proofs.VectorLaws.{IsVector-map}
 use Rattle.sc_matrix.specs.Module.{IsByte}
@@ -9,14 +9,14 @@ use Rattle.sc_matrix.specs.Vector.{IsVector}
 use Rattle.sc_matrix.proofs.MatrixLaws.{get_or-map_all, map-replicate}
 use Rattle.sc_echelon.specs.Kernel.{IsBefore}
 use Rattle.sc_code.specs.Code.{Code}
-use Rattle.sc_code.specs.Stream.{IsStream, IsBlock, block_at, zero_block, column, byte_at}
-use Rattle.sc_code.specs.Parity.{parity_symbol, parity_byte, parity}
-use Rattle.sc_code.specs.Determined.{IsKept, IsZeroSlot}
+use Rattle.sc_code.specs.Stream.{IsStream, IsBlock, block_at, column, byte_at}
+use Rattle.sc_code.specs.Parity.{parity_byte}
+use Rattle.sc_code.specs.Determined.{IsZeroSlot}
 use Rattle.sc_code.specs.Elements.{element_at, IsZeroElements}
 use Rattle.sc_code.proofs.ParityLaws.{parity_symbol-same}
 use Rattle.sc_code.proofs.ColumnLaws.{byte_at-parity, byte_at-zeros, zero_parity_from_bytes}
-use Rattle.sc_window.specs.Window.{symbols_of, IsZeroWhereKept}
-use Rattle.sc_window.specs.Difference.{IsDifference, IsLeastStream, IsLeastDifference, IsByteDifference, IsLeastByteDifference}
+use Rattle.sc_window.specs.Window.{symbols_of}
+use Rattle.sc_window.specs.Difference.{IsDifference, IsLeastDifference, IsByteDifference, IsLeastByteDifference}
 
 -- ---- symbols of one byte
 abbrev pub symbol_of : ℕ → List ℕ

@@ -1,8 +1,8 @@
 -- What the kernel of a window matrix tells of block 0. `K` is the set of the kernel's vectors: those that spell a stream which
 -- is zero in each kept slot.
-use Rattle.std.proofs.Common.{◌≡◌, ◌≢◌, ◌↔◌, ◌⊎◌, ℕ, zero as naught, suc, ◌+◌, ◌*◌, ◌<◌, ◌≤◌, Bool, List, [], length, get_or, take, replicate, All, refl, sym, ap, ◌∙◌, subst, arith, inl, inr}
+use Rattle.std.proofs.Common.{◌≡◌, ◌↔◌, ◌⊎◌, ℕ, zero as naught, suc, ◌*◌, ◌<◌, ◌≤◌, Bool, List, [], length, get_or, take, replicate, All, sym, ap, ◌∙◌, subst, arith, inl, inr}
 use Rattle.std.proofs.lemmas.Bool.{cases_lt}
-use Rattle.std.proofs.lemmas.List.{length-take-le, length-replicate, get_or-replicate, get_or-take, get_or_default, get_or_past, same_lists}
+use Rattle.std.proofs.lemmas.List.{length-take-le, length-replicate, get_or-replicate, get_or-take, get_or_default, same_lists}
 use Rattle.sc_field.specs.Field.{IsField, IsExact}
 use Rattle.sc_field.specs.FieldLemmas.{same_or_differ}
 use Rattle.sc_channel.specs.Flags.{IsSet, set_count}
@@ -12,7 +12,6 @@ use Rattle.sc_code.specs.Code.{Code}
 use Rattle.sc_code.specs.Elements.{IsDecidedOver}
 use Rattle.sc_code.proofs.SumLaws.{All-or}
 use Rattle.sc_window.specs.Window.{lost_symbols, spelled, IsLostStream, IsZeroWhereKept}
-use Rattle.sc_window.specs.Difference.{IsDifference}
 use Rattle.sc_window.proofs.SpellLaws.{first_width, spelled-first, IsLostStream-spelled, IsVector-lost_symbols, spelled-lost_symbols}
 
 -- the first n entries are zero, or some is not

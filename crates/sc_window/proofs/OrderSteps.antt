@@ -1,5 +1,5 @@
 -- The order of vectors of lost symbols is that of the streams that they spell, and the least vector spells the least stream.
-use Rattle.std.proofs.Common.{◌≡◌, ◌≢◌, ◌↔◌, ◌⊎◌, ℕ, zero as naught, suc, ◌+◌, ◌-◌, ◌*◌, ◌<◌, ◌≤◌, Bool, true, false, List, [], ◌∷◌, ◌++◌, length, get_or, take, drop, replicate, All, refl, sym, ap, ◌∙◌, subst, arith, inl, inr}
+use Rattle.std.proofs.Common.{◌≡◌, ◌↔◌, ℕ, ◌+◌, ◌-◌, ◌*◌, ◌<◌, ◌≤◌, Bool, true, false, List, [], ◌∷◌, ◌++◌, length, get_or, take, drop, replicate, sym, ap, ◌∙◌, subst, arith, inl, inr}
 use Rattle.std.proofs.lemmas.Bool.{cases_lt}
 use Rattle.std.proofs.lemmas.List.{length-append, length-take-le, get_or-take, get_or-drop, get_or-append-add, get_or_default, same_lists, length-drop}
 use Rattle.std.proofs.Math.ListN.{get_or-append}
@@ -24,13 +24,13 @@ module _ {A : Type 0} (zero : A) (number : A → ℕ) where
         col = length p + h.col;
         within = omega arith;
         same = λ j lt. elim (cases_lt j (length p)) [
-            | inl front ↦ get_or-append p a zero j front ∙ sym (get_or-append p b zero j front)
-            | inr back ↦
-                let e : j ≡ length p + (j - length p) = omega arith in
-                ap (λ (i : ℕ). get_or (p ++ a) i zero) e ∙ get_or-append-add p a (j - length p) zero
-                ∙ h.same (j - length p) (omega arith)
-                ∙ sym (ap (λ (i : ℕ). get_or (p ++ b) i zero) e ∙ get_or-append-add p b (j - length p) zero)
-          ];
+          | inl front ↦ get_or-append p a zero j front ∙ sym (get_or-append p b zero j front)
+          | inr back ↦
+              let e : j ≡ length p + (j - length p) = omega arith in
+              ap (λ (i : ℕ). get_or (p ++ a) i zero) e ∙ get_or-append-add p a (j - length p) zero
+              ∙ h.same (j - length p) (omega arith)
+              ∙ sym (ap (λ (i : ℕ). get_or (p ++ b) i zero) e ∙ get_or-append-add p b (j - length p) zero)
+        ];
         less = rw (get_or-append-add p a h.col zero, get_or-append-add p b h.col zero) h.less;
       }
 

@@ -11,7 +11,7 @@ use Rattle.sc_channel.specs.Flags.{set_count}
 use Rattle.sc_matrix.specs.Matrix.{Matrix, row_count, with_last_row}
 use Rattle.sc_code.specs.Code.{Code, IsInRange}
 use Rattle.sc_window.specs.Rows.{window_entry, block_entries, window_row, slot_rows, window_rows}
-use Rattle.sc_window.proofs.SpellLaws.{count-lost, count-kept, lost_width, kept_width}
+use Rattle.sc_window.proofs.SpellLaws.{lost_width, kept_width}
 
 -- ---- a list that grows by the values of a function
 pub entries_more : {A : Type 0} (number : A → ℕ) (f : ℕ → A) (i n : ℕ) (start now : List ℕ) → now ≡ start ++ map number (map f (range_with_len 0 i)) → n ≡ number (f i)

@@ -1,15 +1,15 @@
 -- Vectors of the lost symbols, and the streams that they spell.
-use Rattle.std.proofs.Common.{◌≡◌, ◌↔◌, ℕ, zero as naught, suc, ◌+◌, ◌-◌, ◌*◌, ◌<◌, ◌≤◌, Bool, true, false, cond, List, [], ◌∷◌, ◌++◌, length, get_or, take, drop, replicate, All, refl, sym, ap, ap₂, ◌∙◌, arith}
+use Rattle.std.proofs.Common.{◌≡◌, ℕ, zero as naught, suc, ◌+◌, ◌*◌, ◌≤◌, Bool, true, false, cond, List, [], ◌∷◌, ◌++◌, length, get_or, take, drop, replicate, All, refl, sym, ap, ap₂, ◌∙◌, arith}
 use Rattle.std.proofs.lemmas.Bool.{both_ways}
-use Rattle.std.proofs.lemmas.List.{length-append, take-append-drop, nil_from_length, drop_at}
+use Rattle.std.proofs.lemmas.List.{take-append-drop, nil_from_length, drop_at}
 use Rattle.std.proofs.Math.Seq.{take-append_seam}
-use Rattle.std.proofs.lemmas.List.Elements.{All-nil, All-cons, All-head, All-tail, All-append}
+use Rattle.std.proofs.lemmas.List.Elements.{All-nil, All-cons, All-head, All-tail}
 use Rattle.std.proofs.lemmas.List.Sums.{sum_by-cons}
 use Rattle.sc_channel.specs.Flags.{IsSet, set_count}
-use Rattle.sc_matrix.specs.Vector.{IsVector, picked}
+use Rattle.sc_matrix.specs.Vector.{IsVector}
 use Rattle.sc_matrix.proofs.VectorLaws.{IsVector-append, IsVector-take, IsVector-drop, IsVector-replicate}
 use Rattle.sc_code.specs.Determined.{IsKept}
-use Rattle.sc_window.specs.Window.{symbols_of, lost_symbols, spelled, IsLostStream}
+use Rattle.sc_window.specs.Window.{lost_symbols, spelled, IsLostStream}
 
 -- ---- counts of set flags
 pub count-lost : (class : List Bool) → set_count (true ∷ class) ≡ 1 + set_count class

@@ -1,27 +1,26 @@
 -- The kernel of a window matrix: the dot product of a row with the lost symbols of a stream is a parity of the stream.
-use Rattle.std.proofs.Common.{◌≡◌, ◌↔◌, ℕ, zero as naught, suc, ◌+◌, ◌-◌, ◌*◌, ◌<◌, ◌≤◌, leb, Bool, true, false, List, [], ◌∷◌, ◌++◌, length, get_or, map, replicate, All, refl, sym, ap, ap₂, ◌∙◌, subst, arith, inl, inr}
-use Rattle.std.specs.List.{range_with_len}
-use Rattle.std.proofs.lemmas.Bool.{both_ways, cases_lt, cond-true, cond-false, cond_both, le-leb, lt-leb}
-use Rattle.std.proofs.lemmas.List.{length-append, length-replicate, get_or-replicate, get_or-append-add}
+use Rattle.std.proofs.Common.{◌≡◌, ◌↔◌, ℕ, zero as naught, suc, ◌+◌, ◌-◌, ◌*◌, ◌<◌, ◌≤◌, leb, Bool, true, false, List, [], ◌∷◌, ◌++◌, length, get_or, All, refl, sym, ap, ap₂, ◌∙◌, subst, arith}
+use Rattle.std.proofs.lemmas.Bool.{both_ways, cond-true, cond-false, cond_both, le-leb, lt-leb}
+use Rattle.std.proofs.lemmas.List.{length-append, get_or-replicate, get_or-append-add}
 use Rattle.std.proofs.Math.ListN.{get_or-append}
-use Rattle.std.proofs.lemmas.List.Elements.{All-nil, All-cons, All-head, All-tail, All-append}
+use Rattle.std.proofs.lemmas.List.Elements.{All-nil, All-head, All-append}
 use Rattle.std.proofs.lemmas.List.FromFn.{length-map-range_with_len, get_or-map-range_with_len}
 use Rattle.sc_field.specs.Field.{IsField}
-use Rattle.sc_channel.specs.Flags.{IsSet, set_count}
+use Rattle.sc_channel.specs.Flags.{set_count}
 use Rattle.sc_matrix.specs.Vector.{IsVector, dot}
-use Rattle.sc_matrix.proofs.VectorLaws.{IsVector-append, vector_of}
+use Rattle.sc_matrix.proofs.VectorLaws.{vector_of}
 use Rattle.sc_matrix.proofs.ModuleLaws.{none_plus, times_none, dot-append}
 use Rattle.sc_matrix.proofs.Modules.{field_module}
 use Rattle.sc_echelon.specs.Kernel.{IsKernelVector}
 use Rattle.sc_code.specs.Code.{Code, IsCode, coefficient}
 use Rattle.sc_code.specs.Parity.{sum_below, parity_symbol}
 use Rattle.sc_code.specs.Determined.{IsKept}
-use Rattle.sc_code.specs.Elements.{element_at, IsZeroElements}
+use Rattle.sc_code.specs.Elements.{element_at}
 use Rattle.sc_code.proofs.SumLaws.{All-or, sum_below-same, value-sum_below, sum_below-zeros, sum_below-longer, sum_below-reversed, dot-sum_below}
-use Rattle.sc_code.proofs.ParityLaws.{AreValues, element-coefficient, parity_symbol-by_slots}
+use Rattle.sc_code.proofs.ParityLaws.{element-coefficient, parity_symbol-by_slots}
 use Rattle.sc_code.proofs.ColumnLaws.{All-map_range}
 use Rattle.sc_code.proofs.MeetsLaws.{IsKept-in_range}
-use Rattle.sc_window.specs.Window.{symbols_of, lost_symbols, spelled, IsLostStream, IsZeroWhereKept}
+use Rattle.sc_window.specs.Window.{lost_symbols, spelled, IsLostStream, IsZeroWhereKept}
 use Rattle.sc_window.specs.Rows.{window_entry, block_entries, window_row, slot_rows, window_rows}
 use Rattle.sc_window.proofs.SpellLaws.{IsLostStream-rest, IsLostStream-spelled, IsVector-lost_symbols, lost_symbols-spelled}
 
@@ -193,17 +192,19 @@ module _ {A : Type 0} {IsElement : A → Type 0} {zero one : A} {add sub mul : A
     λ kernel.
         let hv : IsVector IsElement (code.k * set_count class) v = record { width = kernel.width; entries = kernel.elements } in
         let stream = IsLostStream-spelled zero laws.zero_element code.k class v hv in
-        let slots = rows_to_slots zero code class (λ row. dot zero add mul row v ≡ zero) 0 class kernel.zeros in
-        (hv, λ t kept.
-        let e : 0 + t ≡ t = omega arith in
-        record {
-          symbols = stream.zeros t kept;
-          parities = λ j hj.
-              sym (dot-parity code t j class (spelled zero code.k class v) hc (IsKept-in_range class t kept) stream)
-              ∙ ap (dot zero add mul (window_row zero code t j 0 class)) (lost_symbols-spelled zero code.k class v hv)
-              ∙ ap (λ (u : ℕ). dot zero add mul (window_row zero code u j 0 class) v) (sym e)
-              ∙ slots t kept j hj;
-        }),
+        let slots = rows_to_slots zero code class (λ row. dot zero add mul row v ≡ zero) 0 class kernel.zeros in (
+          hv,
+          λ t kept.
+              let e : 0 + t ≡ t = omega arith in
+              record {
+                symbols = stream.zeros t kept;
+                parities = λ j hj.
+                    sym (dot-parity code t j class (spelled zero code.k class v) hc (IsKept-in_range class t kept) stream)
+                    ∙ ap (dot zero add mul (window_row zero code t j 0 class)) (lost_symbols-spelled zero code.k class v hv)
+                    ∙ ap (λ (u : ℕ). dot zero add mul (window_row zero code u j 0 class) v) (sym e)
+                    ∙ slots t kept j hj;
+              },
+        ),
     λ spells.
         let hv = spells.0 in
         let stream = IsLostStream-spelled zero laws.zero_element code.k class v hv in
@@ -211,10 +212,10 @@ module _ {A : Type 0} {IsElement : A → Type 0} {zero one : A} {add sub mul : A
           width = hv.width;
           elements = hv.entries;
           zeros = rows_from_slots zero code class (λ row. dot zero add mul row v ≡ zero) 0 class (λ t kept j hj.
-          let e : 0 + t ≡ t = omega arith in
-          ap (λ (u : ℕ). dot zero add mul (window_row zero code u j 0 class) v) e
-          ∙ ap (dot zero add mul (window_row zero code t j 0 class)) (sym (lost_symbols-spelled zero code.k class v hv))
-          ∙ dot-parity code t j class (spelled zero code.k class v) hc (IsKept-in_range class t kept) stream
-          ∙ (spells.1 t kept).parities j hj);
+              let e : 0 + t ≡ t = omega arith in
+              ap (λ (u : ℕ). dot zero add mul (window_row zero code u j 0 class) v) e
+              ∙ ap (dot zero add mul (window_row zero code t j 0 class)) (sym (lost_symbols-spelled zero code.k class v hv))
+              ∙ dot-parity code t j class (spelled zero code.k class v) hc (IsKept-in_range class t kept) stream
+              ∙ (spells.1 t kept).parities j hj);
         },
   )

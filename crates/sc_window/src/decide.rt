@@ -20,11 +20,7 @@ use std::alloc::Global;
 ///
 /// `class` has a flag for each slot from slot 0 on, which is set where the slot is lost; there are 1 to 41 flags, and that of
 /// slot 0 is set. All of them may be set.
-pub fn decides<F: Field>(
-    alloc: Global,
-    code: &Code<F>,
-    class: &[bool],
-) -> Result<bool, NoMemory>
+pub fn decides<F: Field>(alloc: Global, code: &Code<F>, class: &[bool]) -> Result<bool, NoMemory>
     requires few { length class.now ≤ 41 }
     requires first_lost { IsSet class.now 0 }
     ensures { IfOk result (λ b. IsTrue b ↔ IsDecidedOver F.IsElement F.zero F.add F.mul code.now class.now) }

@@ -8,3 +8,6 @@ mod window;
 pub use decide::{decides, least_difference};
 pub use laws::{differences_are_bytes, vectors_spell_streams};
 pub use window::window_matrix;
+
+#[cfg(test)]
+mod tests;

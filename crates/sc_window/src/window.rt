@@ -60,7 +60,8 @@ fn push_rows<F: Field>(
     ensures { OnOk result (matrix.new ≡ window_of F.zero code.now class.now) }
 {
     for t in 0..class.len() {
-        if !class[t] {
+        let lost = class[t];
+        if !lost {
             push_slot(matrix, row, code, class, t)?;
         }
     }
@@ -101,7 +102,8 @@ fn write_row<F: Field>(
 {
     row.clear();
     for s in 0..class.len() {
-        if class[s] {
+        let lost = class[s];
+        if lost {
             push_block(row, code, t, j, s)?;
         }
     }

@@ -1,5 +1,4 @@
-use Rattle.std.proofs.Common.{◌≡◌, ◌↔◌, ◌≤◌, ◌*◌, ℕ, sym, subst, arith}
-use Rattle.sc_channel.specs.Flags.{set_count}
+use Rattle.std.proofs.Common.{arith}
 use Rattle.sc_echelon.specs.Kernel.{IsKernelVector}
 use Rattle.sc_window.proofs.SpellLaws.{first_width}
 use Rattle.sc_window.proofs.DecideSteps.{decided_from_none_free, none_free_from_decided}

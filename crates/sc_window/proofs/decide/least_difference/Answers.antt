@@ -1,4 +1,4 @@
-use Rattle.std.proofs.Common.{◌≡◌, ◌↔◌, ◌≤◌, ◌*◌, ◌∙◌, ℕ, List, map, length, sym, ap, ap₂, subst, arith}
+use Rattle.std.proofs.Common.{◌*◌, ◌∙◌, ℕ, List, map, length, sym, ap, ap₂}
 use Rattle.sc_channel.specs.Flags.{set_count}
 use Rattle.sc_echelon.specs.Kernel.{IsKernelVector, IsLeastBelow}
 use Rattle.sc_window.specs.Window.{spelled}

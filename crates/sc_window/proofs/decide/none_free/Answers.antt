@@ -1,4 +1,4 @@
-use Rattle.std.proofs.Common.{◌≡◌, ◌≤◌, ℕ, refl, subst, arith}
+use Rattle.std.proofs.Common.{refl, arith}
 use Rattle.sc_window.proofs.decide.none_free.Goals as goal
 
 pub returns : goal.returns

@@ -1,4 +1,4 @@
-use Rattle.std.proofs.Common.{◌≡◌, ◌++◌, ◌+◌, ◌*◌, ℕ, List, length, map, drop, sym, ap, ap₂, ◌∙◌}
+use Rattle.std.proofs.Common.{◌++◌, ◌+◌, ◌*◌, ℕ, List, map, drop, sym, ap, ap₂, ◌∙◌}
 use Rattle.sc_channel.specs.Flags.{set_count}
 use Rattle.sc_window.specs.Window.{symbols_of, spelled}
 use Rattle.sc_window.proofs.StreamSteps.{left_lost, left_kept, numbers_lost, numbers_kept}

@@ -1,11 +1,10 @@
-use Rattle.std.proofs.Common.{◌≡◌, ◌≤◌, ◌++◌, ◌+◌, ◌*◌, ℕ, List, length, drop, sym, ap, ◌∙◌, subst, arith}
+use Rattle.std.proofs.Common.{◌++◌, ◌+◌, drop, ap, ◌∙◌, arith}
 use Rattle.std.proofs.lemmas.List.{length-append}
-use Rattle.sc_channel.specs.Flags.{set_count}
 use Rattle.sc_matrix.specs.Matrix.{row_count}
 use Rattle.sc_window.specs.Rows.{slot_rows, window_rows}
 use Rattle.sc_window.proofs.RowSteps.{rows_lost, rows_kept, length-slot_rows}
 use Rattle.sc_window.proofs.window.push_rows.Goals as goal
-use Rattle.sc_window.proofs.window.push_rows.Goals.{then-not-class-t+in_ok-push_slot, else-not-class-t}
+use Rattle.sc_window.proofs.window.push_rows.Goals.{then-not-lost+in_ok-push_slot, else-not-lost}
 
 pub loop-t-preserved : goal.loop-t-preserved
 loop-t-preserved g c =
@@ -15,8 +14,8 @@ loop-t-preserved g c =
     let t = c.loop-t.t in
     let rest = window_rows zero code class (t + 1) (drop (t + 1) class) in
     let whole = window_rows zero code class 0 class in
-    elim c.if-not-class-t.branch [
-      | then-not-class-t+in_ok-push_slot w ↦
+    elim c.if-not-lost.branch [
+      | then-not-lost+in_ok-push_slot w ↦
           let now = w.matrix-is ∙ w.in_ok-push_slot.ensures in
           let l = length-append c.loop-t.matrix.rows (slot_rows zero code class t) in
           let r = length-slot_rows zero code class t in
@@ -25,14 +24,14 @@ loop-t-preserved g c =
           record {
             cols = ap (λ m. m.cols) now ∙ c.loop-t.invariant.cols;
             count = omega arith;
-            rows = ap (λ m. m.rows ++ rest) now ∙ rows_kept zero code class t _ c.loop-t.matrix.rows whole c.loop-t-test.true w.if-not-class-t.true c.loop-t.invariant.rows;
+            rows = ap (λ m. m.rows ++ rest) now ∙ rows_kept zero code class t _ c.loop-t.matrix.rows whole c.loop-t-test.true w.if-not-lost.true c.loop-t.invariant.rows;
           }
-      | else-not-class-t w ↦
+      | else-not-lost w ↦
           let n = ap row_count w.matrix-is in
           let before = c.loop-t.invariant.count in
           record {
             cols = ap (λ m. m.cols) w.matrix-is ∙ c.loop-t.invariant.cols;
             count = omega arith;
-            rows = ap (λ m. m.rows ++ rest) w.matrix-is ∙ rows_lost zero code class t _ c.loop-t.matrix.rows whole c.loop-t-test.true w.if-not-class-t.false c.loop-t.invariant.rows;
+            rows = ap (λ m. m.rows ++ rest) w.matrix-is ∙ rows_lost zero code class t _ c.loop-t.matrix.rows whole c.loop-t-test.true w.if-not-lost.false c.loop-t.invariant.rows;
           }
     ]

@@ -1,12 +1,10 @@
-use Rattle.std.proofs.Common.{◌≡◌, ◌<◌, ◌≤◌, ◌++◌, ◌+◌, ◌*◌, ℕ, List, length, map, All, sym, ap, ◌∙◌, subst, arith}
-use Rattle.std.specs.List.{range_with_len}
-use Rattle.std.proofs.lemmas.List.{length-append, length-map, append_assoc}
-use Rattle.std.proofs.lemmas.List.FromFn.{length-map-range_with_len, map-range_with_len_more}
+use Rattle.std.proofs.Common.{◌≡◌, length, map, sym, ap, ◌∙◌, arith}
+use Rattle.std.proofs.lemmas.List.{length-map}
 use Rattle.std.proofs.lemmas.List.Elements.{All-same}
 use Rattle.std.proofs.lemmas.List.Sums.{count_by-le-length}
 use Rattle.sc_field.specs.Field.{IsNumber}
 use Rattle.sc_channel.specs.Flags.{set_count}
-use Rattle.sc_matrix.specs.Matrix.{Matrix, row_count, with_last_row}
+use Rattle.sc_matrix.specs.Matrix.{row_count}
 use Rattle.sc_window.specs.Rows.{window_row}
 use Rattle.sc_window.proofs.WindowSteps.{window_row-elements}
 use Rattle.sc_window.proofs.RowSteps.{length-window_row, rows_so_far, rows_more, are_numbers, elements_again, slot_room}

@@ -1,4 +1,4 @@
-use Rattle.std.proofs.Common.{◌≡◌, ◌↔◌, ◌≤◌, ◌-◌, ◌*◌, ℕ, length, sym, ap, ◌∙◌, subst}
+use Rattle.std.proofs.Common.{◌↔◌, ◌*◌, length, sym, ap, ◌∙◌, subst}
 use Rattle.sc_channel.specs.Flags.{set_count}
 use Rattle.sc_matrix.specs.Vector.{IsVector}
 use Rattle.sc_matrix.specs.Matrix.{row_count}
@@ -24,5 +24,5 @@ returns-clause-kernel g c = λ v.
     let code = c.args.code.now in
     let class = c.args.class.now in
     subst (λ m. IsKernelVector F.IsElement F.zero F.add F.mul m.cols m.rows v
-        ↔ (IsVector F.IsElement (code.k * set_count class) v × IsZeroWhereKept F.zero F.add F.mul code class (spelled F.zero code.k class v)))
+    ↔ (IsVector F.IsElement (code.k * set_count class) v × IsZeroWhereKept F.zero F.add F.mul code class (spelled F.zero code.k class v)))
     (sym c.in_ok-push_rows.ensures) (window_kernel g.met.F.Field.field code class v c.k.ensures.limits)
