@@ -211,3 +211,38 @@ fn works_parts_side_by_side(rt: HostRuntime) -> Result<(), Fail> {
     assert_eq!(rt; gate.second.load(Ordering::SeqCst), 1);
     Ok(())
 }
+
+// A gate that counts the jobs, and adds up a power of two for each.
+#[derive(Drop)]
+struct Count {
+    jobs: AtomicU64,
+    powers: AtomicU64,
+}
+
+impl Gate for Count {
+    fn enter(&self, job: u32) {
+        self.jobs.fetch_add(1, Ordering::SeqCst);
+        self.powers.fetch_add(1 << (job % 64), Ordering::SeqCst);
+    }
+}
+
+#[test]
+fn begins_each_part_once(rt: HostRuntime) -> Result<(), Fail> {
+    let two = code_file(rt.alloc(), (4, 3, 2, 3), 2, 3, &TWO_OF_FIVE)?;
+    let classes = classes_of(&two)?;
+    for (workers, jobs) in [(1, 1), (3, 3), (4, 4), (64, 4)] {
+        let gate = Count {
+            jobs: AtomicU64::new(0),
+            powers: AtomicU64::new(0),
+        };
+        let found = first_failing(&rt, rt.alloc(), &two.code, &classes, workers, &gate);
+        assert_eq!(rt; found, Ok(None));
+        assert_eq!(rt; gate.jobs.load(Ordering::SeqCst), jobs, "{workers} workers");
+        assert_eq!(rt;
+            gate.powers.load(Ordering::SeqCst),
+            (1 << jobs) - 1,
+            "{workers} workers"
+        );
+    }
+    Ok(())
+}
