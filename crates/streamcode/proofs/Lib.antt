@@ -3,3 +3,5 @@ pub mod FileLaws
 pub mod RunLaws
 pub mod LoseLaws
 pub mod VerdictSteps
+pub mod CheckLaws
+pub mod CertifyLaws

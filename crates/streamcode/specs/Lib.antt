@@ -6,3 +6,5 @@ pub mod Plans
 pub mod Files
 pub mod Runs
 pub mod LoseLaws
+pub mod CheckLaws
+pub mod CertifyLaws

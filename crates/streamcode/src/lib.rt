@@ -3,6 +3,7 @@
 
 mod bound;
 mod check;
+mod check_laws;
 mod end;
 mod files;
 mod generate;
@@ -16,6 +17,7 @@ mod verdict;
 #[cfg(test)]
 mod tests;
 
+pub use check_laws::{certify_is_bounding, check_is_meeting};
 pub use end::{End, Role};
 pub use lose_laws::lose_is_thinning;
 pub use note::conclude;
