@@ -43,8 +43,7 @@ status_there file input n may s = ap (λ (d : Due End). status_of d.answer) (sym
 
 pub zero-meeting : ZeroIsMeeting
 zero-meeting file input may =
-    let none = answer-none file.code file.channel may.code may.channel in
-    (
+    let none = answer-none file.code file.channel may.code may.channel in (
       λ s. none.0 (zero_of file (refuted_of file.code file.channel) (status_there file input 0 may s)),
       λ m. ap (λ (d : Due End). status_of d.answer) (due_as file input None may (none.1 m)),
     )
