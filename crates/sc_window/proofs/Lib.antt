@@ -5,3 +5,4 @@ pub mod DecideSteps
 pub mod OrderSteps
 pub mod StreamSteps
 pub mod ByteSteps
+pub mod RefutationSteps
