@@ -1,6 +1,7 @@
 -- How the rows of a window matrix are put together, and their sizes.
-use Rattle.std.proofs.Common.{◌≡◌, ℕ, suc, ◌+◌, ◌-◌, ◌*◌, ◌<◌, ◌≤◌, Bool, true, false, List, [], ◌∷◌, ◌++◌, length, get_or, map, drop, All, refl, sym, ap, ap₂, ◌∙◌, subst, arith}
+use Rattle.std.proofs.Common.{◌≡◌, ℕ, suc, ◌+◌, ◌-◌, ◌*◌, ◌<◌, ◌≤◌, leb, Bool, true, false, List, [], ◌∷◌, ◌++◌, length, get_or, map, drop, All, refl, sym, ap, ap₂, ◌∙◌, subst, arith}
 use Rattle.std.specs.List.{range_with_len}
+use Rattle.std.proofs.lemmas.Bool.{cond-true, cond-false, le-leb, lt-leb}
 use Rattle.std.proofs.Math.Nat.{mul-le-mul}
 use Rattle.std.proofs.lemmas.List.{append_assoc, length-append, map-append, map_push, drop_more}
 use Rattle.std.proofs.lemmas.List.FromFn.{length-map-range_with_len, map-range_with_len_more}
@@ -9,19 +10,29 @@ use Rattle.std.proofs.lemmas.List.Sums.{count_by-le-length}
 use Rattle.sc_field.specs.Field.{IsNumbered, IsNumber}
 use Rattle.sc_channel.specs.Flags.{set_count}
 use Rattle.sc_matrix.specs.Matrix.{Matrix, row_count, with_last_row}
-use Rattle.sc_code.specs.Code.{Code, IsInRange}
+use Rattle.sc_code.specs.Code.{Code, IsInRange, coefficient}
+use Rattle.sc_code.proofs.ParityLaws.{coefficient-past}
 use Rattle.sc_window.specs.Rows.{window_entry, block_entries, window_row, slot_rows, window_rows}
 use Rattle.sc_window.proofs.SpellLaws.{lost_width, kept_width}
 
--- ---- a list that grows by the values of a function
-pub entries_more : {A : Type 0} (number : A → ℕ) (f : ℕ → A) (i n : ℕ) (start now : List ℕ) → now ≡ start ++ map number (map f (range_with_len 0 i)) → n ≡ number (f i)
-    → now ++ n ∷ [] ≡ start ++ map number (map f (range_with_len 0 (i + 1)))
-entries_more number f i n start now e is =
-    ap₂ (λ (xs : List ℕ) (x : ℕ). xs ++ x ∷ []) e is
-    ∙ append_assoc start (map number (map f (range_with_len 0 i))) (number (f i) ∷ [])
-    ∙ ap (λ (xs : List ℕ). start ++ xs) (sym (map_push number (map f (range_with_len 0 i)) (f i)) ∙ ap (map number) (sym (map-range_with_len_more f 0 i i (omega arith))))
+-- ---- a list of numbers that grows by the number of an element
+pub pushed : {A : Type 0} (number : A → ℕ) (start now : List ℕ) (xs ys : List A) (x : A) (n : ℕ) → now ≡ start ++ map number xs → n ≡ number x → xs ++ x ∷ [] ≡ ys → now ++ n ∷ [] ≡ start ++ map number ys
+pushed number start now xs ys x n e is more =
+    ap₂ (λ (ns : List ℕ) (m : ℕ). ns ++ m ∷ []) e is
+    ∙ append_assoc start (map number xs) (number x ∷ [])
+    ∙ ap (λ (ns : List ℕ). start ++ ns) (sym (map_push number xs x) ∙ ap (map number) more)
 
 module _ {A : Type 0} (zero : A) (code : Code A) where
+  -- ---- an entry
+  pub entry-within : (t j s i : ℕ) → s ≤ t → window_entry zero code t j s i ≡ coefficient zero code (t - s) i j
+  entry-within t j s i le = cond-true (leb s t) (coefficient zero code (t - s) i j) zero (le-leb s t le)
+
+  pub entry-later : (t j s i : ℕ) → t < s → window_entry zero code t j s i ≡ zero
+  entry-later t j s i lt = cond-false (leb s t) (coefficient zero code (t - s) i j) zero (lt-leb s t lt)
+
+  pub entry-past : (t j s i : ℕ) → s ≤ t → length code.lags ≤ t - s → window_entry zero code t j s i ≡ zero
+  entry-past t j s i le past = entry-within t j s i le ∙ coefficient-past zero code (t - s) i j past
+
   -- ---- a row that grows by the entries of a lost slot
   pub row_lost : (number : A → ℕ) (t j s : ℕ) (class : List Bool) (d : Bool) (now whole : List ℕ) → s < length class → get_or class s d ≡ true
       → now ++ map number (window_row zero code t j s (drop s class)) ≡ whole

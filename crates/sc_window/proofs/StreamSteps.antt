@@ -2,7 +2,7 @@
 use Rattle.std.proofs.Common.{◌≡◌, ℕ, ◌+◌, ◌-◌, ◌*◌, ◌/◌, ◌%◌, ◌<◌, ◌≤◌, Bool, true, false, List, [], ◌∷◌, ◌++◌, length, get_or, map, take, drop, replicate, All, refl, sym, ap, ap₂, ◌∙◌, arith}
 use Rattle.std.proofs.Math.Nat.{mul-div_cancel, mul-mod_left}
 use Rattle.std.proofs.Math.Seq.{take-append_seam}
-use Rattle.std.proofs.lemmas.List.{append_assoc, length-append, length-map, map-append, drop-drop, drop_more, drop_at}
+use Rattle.std.proofs.lemmas.List.{append-nil, append_assoc, drop_all, length-append, length-map, map-append, drop-drop, drop_more, drop_at}
 use Rattle.std.proofs.lemmas.List.Elements.{All-head, All-tail, All-map}
 use Rattle.sc_channel.specs.Flags.{set_count}
 use Rattle.sc_matrix.specs.Layout.{cut}
@@ -49,6 +49,12 @@ module _ {A : Type 0} (zero : A) (number : A → ℕ) (k t from : ℕ) (class : 
       ∙ ap (λ (xs : List ℕ). now ++ xs)
       (sym (map-append number (replicate k zero) rest) ∙ ap (λ (flags : List Bool). map number (symbols_of (spelled zero k flags (drop from v)))) (sym here))
       ∙ e
+
+-- at the end nothing is left
+pub numbers_all : {A : Type 0} (zero : A) (number : A → ℕ) (k t : ℕ) (class : List Bool) (v : List A) (now whole : List ℕ) → length class ≤ t
+    → now ++ map number (symbols_of (spelled zero k (drop t class) v)) ≡ whole → now ≡ whole
+numbers_all zero number k t class v now whole past e =
+    sym (append-nil now) ∙ ap (λ (flags : List Bool). now ++ map number (symbols_of (spelled zero k flags v))) (sym (drop_all t class past)) ∙ e
 
 -- ---- the blocks of a list of symbols
 pub length-symbols_of : {A : Type 0} {P : A → Type 0} (k : ℕ) (xs : List (List A)) → All (IsVector P k) xs → length (symbols_of xs) ≡ length xs * k

@@ -1,7 +1,7 @@
-use Rattle.std.proofs.Common.{◌++◌, ◌+◌, ◌*◌, ℕ, List, map, drop, sym, ap, ap₂, ◌∙◌}
+use Rattle.std.proofs.Common.{◌++◌, ◌+◌, ◌*◌, ℕ, List, map, drop, sym, ap, ap₂, ◌∙◌, arith}
 use Rattle.sc_channel.specs.Flags.{set_count}
 use Rattle.sc_window.specs.Window.{symbols_of, spelled}
-use Rattle.sc_window.proofs.StreamSteps.{left_lost, left_kept, numbers_lost, numbers_kept}
+use Rattle.sc_window.proofs.StreamSteps.{left_lost, left_kept, numbers_lost, numbers_kept, numbers_all}
 use Rattle.sc_window.proofs.decide.spell.Goals as goal
 use Rattle.sc_window.proofs.decide.spell.Goals.{then-class-t+in_ok-push_numbers, else-class-t+in_ok-push_zeros}
 
@@ -30,3 +30,7 @@ loop-t-preserved g c =
             ∙ numbers_kept zero number k t c.loop-t.from class v c.loop-t.numbers.items whole c.loop-t-test.true invariant.numbers w.if-class-t.false;
       }
     ]
+
+pub returns : goal.returns
+returns g c =
+    numbers_all g.F.Field.zero g.F.Field.number c.args.k c.loop-t.t c.args.class.now _ c.loop-t.numbers.items _ (omega arith) c.loop-t.invariant.numbers
