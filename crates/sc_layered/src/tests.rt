@@ -1,0 +1,1 @@
+//! Layered candidates as an implementation in Python gives them.

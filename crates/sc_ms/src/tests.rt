@@ -1,0 +1,1 @@
+//! Burst codes as an implementation in Python gives them.

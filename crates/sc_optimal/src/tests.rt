@@ -1,0 +1,1 @@
+//! Rate-optimal candidates as an implementation in Python gives them.
