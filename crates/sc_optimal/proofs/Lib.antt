@@ -1,1 +1,2 @@
 mod SizeSteps
+mod DesignSteps
