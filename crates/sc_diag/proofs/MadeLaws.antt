@@ -50,11 +50,11 @@ module _ {A : Type 0} where
   pub others : (zero : A) (p : Matrix A) (lag i j : ℕ) → i < row_count p → j < p.cols → ¬ (lag + i ≡ row_count p + j)
       → coefficient zero (interleaved zero p) lag i j ≡ zero
   others zero p lag i j hi hj ne = elim (cases_lt lag (row_count p + p.cols)) [
-      inl h ↦
-      coefficient-code_with zero (diagonal_coefficient zero p) (row_count p) p.cols (row_count p + p.cols) lag i j h hi hj
-      ∙ ap (λ (b : Bool). if b then entry zero p i j else zero) (ne_eqb (lag + i) (row_count p + j) ne)
+    | inl h ↦
+        coefficient-code_with zero (diagonal_coefficient zero p) (row_count p) p.cols (row_count p + p.cols) lag i j h hi hj
+        ∙ ap (λ (b : Bool). if b then entry zero p i j else zero) (ne_eqb (lag + i) (row_count p + j) ne)
     | inr past ↦ coefficient-past zero (diagonal_coefficient zero p) (row_count p) p.cols (row_count p + p.cols) lag i j (λ h. absurd (omega arith))
-    ]
+  ]
 
   -- one row more
   pub with_last_row-matrix_with : (n c : ℕ) (entries : ℕ → ℕ → A) → with_last_row (matrix_with n c entries) (map (entries n) (range_with_len 0 c)) ≡ matrix_with (n + 1) c entries

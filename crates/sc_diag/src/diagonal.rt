@@ -35,7 +35,9 @@ impl<'a> Entries for Diagonals<'a> {
     ghost use Rattle.sc_diag.specs.Diagonal.{diagonal_coefficient};
 
     ghost rows = { λ d. row_count d.p.now };
+
     ghost cols = { λ d. d.p.now.cols };
+
     ghost entry = { λ d. diagonal_coefficient 0 d.p.now };
 
     fn rows(&self) -> usize {

@@ -5,6 +5,8 @@
 mod diagonal;
 mod laws;
 mod made;
+#[cfg(test)]
+mod tests;
 
 pub use diagonal::interleave;
 pub use laws::{diagonals_hold_the_matrix, entries_are_had};

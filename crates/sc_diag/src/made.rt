@@ -16,6 +16,7 @@ use std::alloc::Global;
 pub trait Entries {
     // The numbers of rows and columns of each matrix.
     ghost rows: { Self → ℕ };
+
     ghost cols: { Self → ℕ };
 
     // The entry of the matrix of a lag, at a row and a column.
@@ -67,12 +68,7 @@ fn push_bytes(m: &mut Matrix<Gf256>, row: &[u8]) -> Result<(), NoMemory>
 }
 
 /// The numbers of a row of the matrix of a lag.
-fn row_of<E: Entries>(
-    alloc: Global,
-    entries: &E,
-    lag: usize,
-    i: usize,
-) -> Result<Vec<u8>, NoMemory>
+fn row_of<E: Entries>(alloc: Global, entries: &E, lag: usize, i: usize) -> Result<Vec<u8>, NoMemory>
     requires lag { lag ≤ 64 }
     requires small { E.rows entries.now + E.cols entries.now ≤ 64 }
     requires row { i < E.rows entries.now }

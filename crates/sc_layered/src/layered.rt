@@ -112,7 +112,13 @@ fn make_layers(alloc: Global, channel: &Channel, c: u32) -> Result<Layers, NoMem
     let first = b * t * (t - b);
     let second = q * (t + 1) * b;
     let draws = Draws::new(alloc, u64::from(c), first + second)?;
-    Ok(Layers { b, t, q, first, draws })
+    Ok(Layers {
+        b,
+        t,
+        q,
+        first,
+        draws,
+    })
 }
 
 /// The matrices of a candidate, by its sizes and its draws.
@@ -136,7 +142,9 @@ impl Entries for Layers {
     ghost use Rattle.sc_layered.specs.Layered.{layered_coefficient};
 
     ghost rows = { λ layers. layers.t };
+
     ghost cols = { λ layers. layers.b + layers.q };
+
     ghost entry = { λ layers. layered_coefficient (generator layers.draws.seed) layers.b layers.t };
 
     fn rows(&self) -> usize {

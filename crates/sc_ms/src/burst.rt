@@ -104,7 +104,9 @@ impl Entries for Burst {
     ghost use Rattle.sc_ms.specs.Burst.{burst_entry};
 
     ghost rows = { λ burst. burst.t };
+
     ghost cols = { λ burst. burst.b };
+
     ghost entry = { λ burst _. burst_entry burst.b };
 
     fn rows(&self) -> usize {

@@ -74,8 +74,8 @@ unfoldable pub design_of : MakerKind → ChannelNumbers → Result Found DesignF
 design_of kind channel =
     if is_not_burst kind channel then Err NotBurst
     else (if nat_lt 64 (candidate_width kind channel) then Err (TooWide (candidate_width kind channel))
-          else (if nat_lt 1000000 (class_count channel) then Err (TooManyClasses (class_count channel))
-                else first_from kind channel 0 (candidate_count kind)))
+    else (if nat_lt 1000000 (class_count channel) then Err (TooManyClasses (class_count channel))
+    else first_from kind channel 0 (candidate_count kind)))
 
 -- ---- the search
 

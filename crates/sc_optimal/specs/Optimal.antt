@@ -76,8 +76,8 @@ optimal_entry words s n i j =
     if nat_lt j s.whole
     then nonzero_at words (j * s.rows + i)
     else (if nat_lt i (first_rows s)
-          then bit_xor (entry 0 (low_rank words s) i (j - s.whole)) (if j + 1 == i + n then nonzero_at words (diagonal_from s + i) else 0)
-          else nonzero_at words (last_from s n + ((i - s.cols) * other_cols s + (j - s.whole))))
+    then bit_xor (entry 0 (low_rank words s) i (j - s.whole)) (if j + 1 == i + n then nonzero_at words (diagonal_from s + i) else 0)
+    else nonzero_at words (last_from s n + ((i - s.cols) * other_cols s + (j - s.whole))))
 
 -- the parity matrix of a channel's candidate of this number
 abbrev pub optimal_matrix : ChannelNumbers → ℕ → Matrix ℕ

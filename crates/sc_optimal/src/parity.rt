@@ -29,7 +29,9 @@ impl<'a> Entries for Drawn<'a> {
     ghost use Rattle.sc_draw.specs.Draw.{generator, nonzero_at};
 
     ghost rows = { λ d. d.rows };
+
     ghost cols = { λ d. d.cols };
+
     ghost entry = { λ d _ i j. nonzero_at (generator d.draws.now.seed) (d.from + (i * d.cols + j)) };
 
     fn rows(&self) -> usize {
@@ -157,7 +159,9 @@ impl Entries for Parity {
     ghost use Rattle.sc_optimal.specs.Optimal.{optimal_entry};
 
     ghost rows = { λ p. p.sizes.rows };
+
     ghost cols = { λ p. p.sizes.cols };
+
     ghost entry = { λ p _. optimal_entry (generator p.draws.seed) p.sizes p.n };
 
     fn rows(&self) -> usize {

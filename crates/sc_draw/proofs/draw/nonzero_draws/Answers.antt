@@ -1,9 +1,8 @@
-use Rattle.std.proofs.Common.{◌≡◌, ℕ, ◌+◌, ◌%◌, List, [], ◌∷◌, ◌++◌, map, sym, ap, ap₂, ◌∙◌, add-zero, arith}
-use Rattle.std.specs.List.{range_with_len}
+use Rattle.std.proofs.Common.{◌≡◌, ℕ, ◌+◌, ◌%◌, List, [], ◌∷◌, ◌++◌, sym, ap, ap₂, ◌∙◌, add-zero, arith}
 use Rattle.std.proofs.lemmas.List.FromFn.{map-range_with_len_more}
-use Rattle.rand_pcg.specs.Lcg.{Lcg, advance}
+use Rattle.rand_pcg.specs.Lcg.{advance}
 use Rattle.rand_pcg.specs.Pcg.{multiplier_64}
-use Rattle.sc_draw.specs.Draw.{generator, word_at, nonzero_at, nonzero_draws}
+use Rattle.sc_draw.specs.Draw.{generator, word_at, nonzero_at}
 use Rattle.sc_draw.proofs.WordLaws.{advance-none, advance-one, word_at-advance}
 use Rattle.sc_draw.proofs.draw.nonzero_draws.Goals as goal
 

@@ -13,7 +13,7 @@ returns-in-Ok-clause-answer g c =
 pub returns-in-Err-clause-answer : goal.returns-in-Err-clause-answer
 returns-in-Err-clause-answer g c =
     let many : 1000000 < class_count c.args.channel.now = elim (cases_lt 1000000 (class_count c.args.channel.now)) [
-      inl above ↦ above
+      | inl above ↦ above
       | inr within ↦ absurd (both_ways false refl (c.in-Err.ensures.accepted.1 within))
-      ] in
+    ] in
     answer_classes c.args.kind c.args.channel.now c.in-Err.many.count c.requires many c.in-Err.ensures.refused

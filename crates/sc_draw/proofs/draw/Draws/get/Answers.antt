@@ -1,4 +1,4 @@
-use Rattle.std.proofs.Common.{◌≡◌, ℕ, ◌<◌, length, sym, ap, ◌∙◌, subst}
+use Rattle.std.proofs.Common.{◌<◌, length, sym, ap, ◌∙◌, subst}
 use Rattle.sc_draw.specs.Draw.{DrawsOf, generator, nonzero_at}
 use Rattle.sc_draw.proofs.WordLaws.{draw-at}
 use Rattle.sc_draw.proofs.draw.Draws.get.Goals as goal

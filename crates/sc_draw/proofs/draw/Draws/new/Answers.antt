@@ -1,4 +1,4 @@
-use Rattle.std.proofs.Common.{◌≡◌, ℕ, length, sym, ap, ◌∙◌}
+use Rattle.std.proofs.Common.{ℕ, sym, ap, ◌∙◌}
 use Rattle.sc_draw.specs.Draw.{DrawsOf, generator, nonzero_draws}
 use Rattle.sc_draw.proofs.WordLaws.{draws-whole}
 use Rattle.sc_draw.proofs.draw.Draws.new.Goals as goal
