@@ -6,6 +6,7 @@
 --   FaultSteps  the first fault of a table, and that bytes have one answer, whatever the form
 --   FileSteps   which file a value is; that it is one exactly where it has no fault
 --   CertificateSteps  the same for certificates, with their text
+--   LossSteps   the same for losses
 --   ReadingLaws the one answer for all bytes is the one that the relation gives
 pub mod ValueSteps
 pub mod CodeSteps
@@ -13,4 +14,5 @@ pub mod TextSteps
 pub mod FaultSteps
 pub mod FileSteps
 pub mod CertificateSteps
+pub mod LossSteps
 pub mod ReadingLaws

@@ -13,10 +13,12 @@ use Rattle.sc_codefile.specs.Value.{IsValueOf, IsNotJson}
 use Rattle.sc_codefile.specs.Fault.{first_of, IsFirstFault, IsRefusedFor}
 use Rattle.sc_codefile.specs.CodeFile.{code_faults, IsCodeFile, IsCodeFileText}
 use Rattle.sc_codefile.specs.CertificateFile.{certificate_faults, IsCertificateFile, IsCertificateText}
-use Rattle.sc_codefile.specs.Reading.{file_at, certificate_at, reading_by, file_reading, code_reading, certificate_reading}
+use Rattle.sc_codefile.specs.LossFile.{loss_faults, IsLossFile, IsLossText}
+use Rattle.sc_codefile.specs.Reading.{file_at, certificate_at, loss_of, reading_by, file_reading, code_reading, certificate_reading, loss_reading}
 use Rattle.sc_codefile.proofs.CodeSteps.{with_cols-rows_of}
 use Rattle.sc_codefile.proofs.FileSteps.{no_fault-file}
 use Rattle.sc_codefile.proofs.CertificateSteps.{no_fault-certificate}
+use Rattle.sc_codefile.proofs.LossSteps.{no_fault-loss, loss_of-is}
 
 file_at-is : (d : Data) (file : CodeFile) → IsCodeFile d file → file_at d ≡ file
 file_at-is d file is =
@@ -79,3 +81,10 @@ certificate_reading_of text (Ok certificate) ok err =
     inr (sym (clear certificate_faults certificate_at text ok.value ok.is_value (no_fault-certificate ok.value certificate ok.is_file)
     ∙ ap Ok (certificate_at-is ok.value certificate ok.is_file)))
 certificate_reading_of text (Err fault) ok err = refusal certificate_faults certificate_at text fault err
+
+pub loss_reading_of : (text : List ℕ) (result : Result (List Bool) FileFault) → IfOk result (IsLossText text) → IfErr result (IsRefusedFor loss_faults text)
+    → (result ≡ Err Memory) ⊎ (result ≡ loss_reading text)
+unfolding loss_reading
+loss_reading_of text (Ok flags) ok err =
+    inr (sym (clear loss_faults loss_of text ok.value ok.is_value (no_fault-loss ok.value flags ok.is_file) ∙ ap Ok (loss_of-is ok.value flags ok.is_file)))
+loss_reading_of text (Err fault) ok err = refusal loss_faults loss_of text fault err

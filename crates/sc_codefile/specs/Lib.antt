@@ -4,4 +4,5 @@ pub mod CodeFile
 pub mod CodeText
 pub mod CertificateFile
 pub mod Numbers
+pub mod LossFile
 pub mod Reading

@@ -1,5 +1,5 @@
 -- The one answer for all bytes: the file of a form that they are, or why they are none.
-use Rattle.std.specs.Prelude.{ℕ, Bool, List, [], Option, Some, None, unwrap_or, map, Result, Ok, Err, if◌then◌else◌}
+use Rattle.std.specs.Prelude.{ℕ, ◌==◌, Bool, List, [], Option, Some, None, unwrap_or, map, Result, Ok, Err, if◌then◌else◌}
 use Rattle.std.specs.Str.{is_utf8}
 use Rattle.serde_json.specs.Data.{Data}
 use Rattle.serde_json.specs.Read.{read}
@@ -10,6 +10,7 @@ use Rattle.sc_codefile.specs.declared.fault.FileFault.TheVariants.{NotJson}
 use Rattle.sc_codefile.specs.Fault.{first_of}
 use Rattle.sc_codefile.specs.CodeFile.{channel_at, k_at, lags_at, r_at, code_faults}
 use Rattle.sc_codefile.specs.CertificateFile.{lost_at, period_at, certificate_faults}
+use Rattle.sc_codefile.specs.LossFile.{loss_at, loss_faults}
 use Rattle.sc_codefile.specs.Numbers.{with_cols}
 
 -- the file of what a value has at its keys, with zeros for what it hasn't
@@ -26,6 +27,10 @@ file_at d = record {
 -- the numbers of what a value has at its keys, with none for what it hasn't
 abbrev pub certificate_at : Data → CertificateNumbers
 certificate_at d = record { period = unwrap_or (period_at d) 0; lost = unwrap_or (lost_at d) [] }
+
+-- the flags of what a value has at its key, with none for what it hasn't
+abbrev pub loss_of : Data → List Bool
+loss_of d = map (λ character. character == 49) (unwrap_or (loss_at d) [])
 
 module _ {A : Type 0} (faults : Data → List (Bool × FileFault)) (made : Data → A) where
   -- a value without a fault is what is made of it
@@ -48,3 +53,7 @@ code_reading text = file_reading code_faults file_at text
 -- the certificate that bytes are, or the first fault
 unfoldable pub certificate_reading : List ℕ → Result CertificateNumbers FileFault
 certificate_reading text = file_reading certificate_faults certificate_at text
+
+-- the loss that bytes are, or the first fault
+unfoldable pub loss_reading : List ℕ → Result (List Bool) FileFault
+loss_reading text = file_reading loss_faults loss_of text

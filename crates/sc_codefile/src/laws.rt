@@ -1,6 +1,6 @@
 //! Laws of files. The functions do nothing: each has a law as its contract.
 
-ghost use Rattle.std.specs.Prelude.{◌≡◌, ◌≢◌, ℕ, List, None};
+ghost use Rattle.std.specs.Prelude.{◌≡◌, ◌≢◌, ℕ, List, Bool, None};
 ghost use Rattle.serde_json.specs.Data.{Data};
 ghost use Rattle.sc_channel.specs.Certificate.{CertificateNumbers};
 ghost use Rattle.sc_code.specs.declared.code.CodeFile.{CodeFile};
@@ -8,6 +8,7 @@ ghost use Rattle.sc_codefile.specs.Value.{IsValueOf};
 ghost use Rattle.sc_codefile.specs.Fault.{first_of, IsRefusedFor};
 ghost use Rattle.sc_codefile.specs.CodeFile.{IsCodeFile, IsCodeFileText, code_faults};
 ghost use Rattle.sc_codefile.specs.CertificateFile.{IsCertificateFile, IsCertificateText, certificate_faults};
+ghost use Rattle.sc_codefile.specs.LossFile.{IsLossFile, IsLossText, loss_faults};
 
 use crate::fault::FileFault;
 
@@ -30,4 +31,14 @@ pub fn one_certificate_file()
     ensures some_certificate { (d : Data) → first_of (certificate_faults d) ≡ None → (certificate : CertificateNumbers) × IsCertificateFile d certificate }
     ensures refused { (text : List ℕ) (certificate : CertificateNumbers) (fault : FileFault) → IsCertificateText text certificate → IsRefusedFor certificate_faults text fault → fault ≡ FileFault.Memory }
     ensures refusal { (text : List ℕ) (fault other : FileFault) → IsRefusedFor certificate_faults text fault → IsRefusedFor certificate_faults text other → fault ≢ FileFault.Memory → other ≢ FileFault.Memory → fault ≡ other }
+{}
+
+/// The same of losses: a value is at most one loss, and it is one exactly where it has no fault. Bytes that are a loss are
+/// refused for want of memory alone, and other bytes for one fault beside it.
+pub fn one_loss_file()
+    ensures loss { (d : Data) (flags other : List Bool) → IsLossFile d flags → IsLossFile d other → flags ≡ other }
+    ensures no_fault { (d : Data) (flags : List Bool) → IsLossFile d flags → first_of (loss_faults d) ≡ None }
+    ensures some_loss { (d : Data) → first_of (loss_faults d) ≡ None → (flags : List Bool) × IsLossFile d flags }
+    ensures refused { (text : List ℕ) (flags : List Bool) (fault : FileFault) → IsLossText text flags → IsRefusedFor loss_faults text fault → fault ≡ FileFault.Memory }
+    ensures refusal { (text : List ℕ) (fault other : FileFault) → IsRefusedFor loss_faults text fault → IsRefusedFor loss_faults text other → fault ≢ FileFault.Memory → other ≢ FileFault.Memory → fault ≡ other }
 {}

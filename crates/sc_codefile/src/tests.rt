@@ -1,7 +1,7 @@
 //! Texts of code files and certificates beside what they are read as, and refusals in their order.
 
 use super::*;
-use sc_channel::Channel;
+use sc_channel::{Channel, Flags, MAX_FLAGS};
 use sc_code::{Code, CodeFile};
 use sc_field::{Field, Gf256};
 use sc_matrix::Matrix;
@@ -421,6 +421,67 @@ fn longest_certificate_reads_back(rt: HostRuntime) -> Result<(), Fail> {
     let printed = print_certificate(alloc, &cert)?;
     let again = read_certificate(alloc, &printed)?;
     assert_eq!(rt; again.lost(), cert.lost());
+    Ok(())
+}
+
+// What a text is as a loss file: its flags as a word, or the first fault.
+#[test]
+fn losses(rt: HostRuntime) -> Result<(), Fail> {
+    let table = [
+        ("{\"loss\":\"\"}", Ok("")),
+        ("{\"loss\":\"0110\"}", Ok("0110")),
+        (" {\n\"loss\" : \"\\u00310\"} ", Ok("10")),
+        ("", Err(FileFault::NotJson)),
+        ("{\"loss\":\"0\"", Err(FileFault::NotJson)),
+        ("\"0110\"", Err(FileFault::Shape(Key::Whole))),
+        ("[]", Err(FileFault::Shape(Key::Whole))),
+        ("{\"loss\":\"0\",\"lost\":[0]}", Err(FileFault::Shape(Key::Other))),
+        ("{\"Loss\":\"0\"}", Err(FileFault::Shape(Key::Other))),
+        ("{}", Err(FileFault::Shape(Key::Loss))),
+        ("{\"loss\":[0,1]}", Err(FileFault::Shape(Key::Loss))),
+        ("{\"loss\":110}", Err(FileFault::Shape(Key::Loss))),
+        ("{\"loss\":\"012\"}", Err(FileFault::Range(Key::Loss))),
+        ("{\"loss\":\"01 \"}", Err(FileFault::Range(Key::Loss))),
+    ];
+    for (text, expected) in table {
+        match (read_loss(rt.alloc(), text.as_bytes()), expected) {
+            (Ok(flags), Ok(word)) => {
+                assert_eq!(rt; flags.len(), word.len());
+                for (place, byte) in word.as_bytes().iter().enumerate() {
+                    assert!(rt; flags.as_slice().get(place) == Some(&(*byte == b'1')), "{text}");
+                }
+            }
+            (Err(fault), Err(want)) => assert_eq!(rt; fault, want),
+            _ => Err("another answer")?,
+        }
+    }
+    Ok(())
+}
+
+// The longest loss reads back, and one flag more is too many.
+#[test]
+fn longest_loss_reads_back(rt: HostRuntime) -> Result<(), Fail> {
+    let alloc = rt.alloc();
+    let printed = print_loss(alloc, &Flags::new(alloc))?;
+    assert_eq!(rt; printed.as_slice(), b"{\"loss\":\"\"}".as_slice());
+    let mut flags = vec![in alloc; false; MAX_FLAGS]?;
+    for place in 0..MAX_FLAGS {
+        flags[place] = place % 3 == 1;
+    }
+    let loss = Flags::from_vec(flags);
+    if loss.len() <= MAX_FLAGS {
+        let printed = print_loss(alloc, &loss)?;
+        assert_eq!(rt; printed.len(), MAX_FLAGS + 11);
+        let again = read_loss(alloc, &printed)?;
+        assert_eq!(rt; again.as_slice(), loss.as_slice());
+    }
+    let mut long = String::from_str(alloc, "{\"loss\":\"")?;
+    for _flag in 0..MAX_FLAGS + 1 {
+        long.push_str("1")?;
+    }
+    long.push_str("\"}")?;
+    let refused = read_loss(alloc, long.as_bytes());
+    assert!(rt; matches!(&refused, Err(FileFault::Range(Key::Loss))));
     Ok(())
 }
 

@@ -1,0 +1,2 @@
+mod SizeSteps
+mod DesignSteps

@@ -1,0 +1,3 @@
+pub mod Optimal
+pub mod Candidates
+pub mod Design
