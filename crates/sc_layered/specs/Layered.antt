@@ -3,7 +3,7 @@
 -- and their draws are of this project.
 use Rattle.std.specs.Prelude.{ℕ, ◌+◌, ◌-◌, ◌*◌, ◌/◌, ◌==◌, ◌&&◌, nat_lt, nat_le, if◌then◌else◌}
 use Rattle.rand_pcg.specs.Lcg.{Lcg}
-use Rattle.sc_draw.specs.Draw.{generator, nonzero_at}
+use Rattle.sc_layered.specs.Draw.{generator, nonzero_at}
 use Rattle.sc_code.specs.Code.{Code}
 use Rattle.sc_channel.specs.Channel.{ChannelNumbers}
 use Rattle.sc_diag.specs.Made.{code_with}

@@ -2,13 +2,13 @@
 
 ghost use Rattle.std.specs.Prelude.{◌≡◌, ℕ, ◌+◌, ◌*◌, ◌-◌, ◌<◌, ◌≤◌, ◌↔◌, Err, IfOk};
 ghost use Rattle.sc_channel.specs.Channel.{IsChannel};
-ghost use Rattle.sc_draw.specs.Draw.{generator, nonzero_at};
+ghost use Rattle.sc_layered.specs.Draw.{generator, nonzero_at};
 ghost use Rattle.sc_layered.specs.Layered.{second_layer, layered_parity, layered_width, second_word, first_coefficient, layered_code};
 
 use sc_channel::Channel;
 use sc_code::ByteCode;
 use sc_diag::{Entries, code_of};
-use sc_draw::Draws;
+use crate::draw::Draws;
 use sc_field::{Field, Gf256};
 use sc_outside::NoMemory;
 use std::alloc::Global;
@@ -138,7 +138,7 @@ struct Layers {
 
 impl Entries for Layers {
     ghost use Rattle.std.specs.Prelude.{◌+◌};
-    ghost use Rattle.sc_draw.specs.Draw.{generator};
+    ghost use Rattle.sc_layered.specs.Draw.{generator};
     ghost use Rattle.sc_layered.specs.Layered.{layered_coefficient};
 
     ghost rows = { λ layers. layers.t };

@@ -3,7 +3,7 @@ use Rattle.std.proofs.Common.{◌≡◌, ℕ, ◌+◌, ◌*◌, ◌≤◌, ap, �
 use Rattle.std.proofs.Math.Nat.{mul-le-mul}
 use Rattle.std.proofs.lemmas.List.{length-map}
 use Rattle.rand_pcg.specs.Lcg.{Lcg}
-use Rattle.sc_draw.specs.Draw.{generator, nonzero_at}
+use Rattle.sc_layered.specs.Draw.{generator, nonzero_at}
 use Rattle.sc_field.specs.Gf256.{gf256_product}
 use Rattle.sc_matrix.specs.Matrix.{Matrix, row_count, product}
 use Rattle.sc_channel.specs.Channel.{ChannelNumbers}

@@ -3,7 +3,7 @@
 -- are of this project.
 use Rattle.std.specs.Prelude.{ℕ, ◌+◌, ◌-◌, ◌*◌, ◌≤◌, ◌==◌, min, nat_lt, bit_xor, if◌then◌else◌}
 use Rattle.rand_pcg.specs.Lcg.{Lcg}
-use Rattle.sc_draw.specs.Draw.{generator, nonzero_at}
+use Rattle.sc_layered.specs.Draw.{generator, nonzero_at}
 use Rattle.sc_field.specs.Gf256.{gf256_product}
 use Rattle.sc_matrix.specs.Matrix.{Matrix, entry, product}
 use Rattle.sc_code.specs.Code.{Code}

@@ -1,13 +1,13 @@
 //! The parity matrix of a candidate, told entry by entry over its draws.
 
 ghost use Rattle.std.specs.Prelude.{◌≡◌, ◌+◌, ◌*◌, ◌-◌, ◌<◌, ◌≤◌, IfOk};
-ghost use Rattle.sc_draw.specs.Draw.{generator, nonzero_at};
+ghost use Rattle.sc_layered.specs.Draw.{generator, nonzero_at};
 ghost use Rattle.sc_matrix.specs.Matrix.{row_count};
 ghost use Rattle.sc_optimal.specs.Optimal.{drawn_matrix, low_rank, optimal_entry, first_rows, diagonal_from, right_from, end_of};
 
 use crate::sizes::Sizes;
 use sc_diag::{Entries, matrix_of};
-use sc_draw::Draws;
+use sc_layered::Draws;
 use sc_field::{Field, Gf256};
 use sc_matrix::Matrix;
 use sc_outside::NoMemory;
@@ -26,7 +26,7 @@ struct Drawn<'a> {
 
 impl<'a> Entries for Drawn<'a> {
     ghost use Rattle.std.specs.Prelude.{◌+◌, ◌*◌};
-    ghost use Rattle.sc_draw.specs.Draw.{generator, nonzero_at};
+    ghost use Rattle.sc_layered.specs.Draw.{generator, nonzero_at};
 
     ghost rows = { λ d. d.rows };
 
@@ -155,7 +155,7 @@ impl Parity {
 }
 
 impl Entries for Parity {
-    ghost use Rattle.sc_draw.specs.Draw.{generator};
+    ghost use Rattle.sc_layered.specs.Draw.{generator};
     ghost use Rattle.sc_optimal.specs.Optimal.{optimal_entry};
 
     ghost rows = { λ p. p.sizes.rows };

@@ -12,8 +12,7 @@ use Rattle.sc_rtpdump.specs.Record.{Record, IsRecord}
 use Rattle.sc_rtpdump.specs.Preamble.{IsPreamble}
 use Rattle.sc_rtpdump.specs.Capture.{IsCapture}
 use Rattle.sc_rtpdump.specs.Kind.{kind, kind_read}
-use Rattle.sc_draw.specs.Draw.{generator}
-use Rattle.sc_trial.specs.Draw.{drawn}
+use Rattle.sc_trial.specs.Draw.{generator, drawn}
 use Rattle.sc_trial.specs.Generated.{standard_preamble, generated_packet, generated_record, generated_records, generated}
 use Rattle.sc_trial.specs.GeneratedLaws.{IsWithinLimits}
 use Rattle.sc_trial.proofs.DrawSteps.{length-drawn}

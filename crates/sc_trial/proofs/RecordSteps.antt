@@ -17,8 +17,7 @@ use Rattle.sc_rtp.specs.Packet.{plain_head}
 use Rattle.sc_rtpdump.specs.Record.{Record, record_bytes, head_bytes}
 use Rattle.sc_rtpdump.specs.Capture.{records_bytes}
 use Rattle.sc_trial.specs.declared.capture.GenFault.TheVariants.{Write}
-use Rattle.sc_draw.specs.Draw.{generator}
-use Rattle.sc_trial.specs.Draw.{drawn}
+use Rattle.sc_trial.specs.Draw.{generator, drawn}
 use Rattle.sc_trial.specs.Generated.{generated_packet, generated_record, generated_records, standard_preamble, generated, generating, GivesOrHolds}
 use Rattle.sc_trial.proofs.DrawSteps.{length-drawn, drawn-advance}
 

@@ -11,8 +11,7 @@ use Rattle.sc_rtpdump.specs.Record.{Record}
 use Rattle.sc_rtpdump.specs.Capture.{records_bytes}
 use Rattle.sc_trial.specs.declared.capture.GenFault.{GenFault}
 use Rattle.sc_trial.specs.declared.capture.GenFault.TheVariants.{Write, Memory}
-use Rattle.sc_draw.specs.Draw.{generator}
-use Rattle.sc_trial.specs.Draw.{drawn}
+use Rattle.sc_trial.specs.Draw.{generator, drawn}
 
 -- the standard preamble: the line of the address 127.0.0.1 and the port 5004 with its newline, start seconds and
 -- microseconds of 0, the address, the port, and two bytes of padding

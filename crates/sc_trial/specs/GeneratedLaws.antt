@@ -5,7 +5,7 @@ use Rattle.rand_pcg.specs.Lcg.{Lcg}
 use Rattle.sc_rtpdump.specs.declared.kind.Kind.TheVariants.{Rtp}
 use Rattle.sc_rtpdump.specs.Capture.{IsCapture}
 use Rattle.sc_rtpdump.specs.Kind.{kind}
-use Rattle.sc_draw.specs.Draw.{generator}
+use Rattle.sc_trial.specs.Draw.{generator}
 use Rattle.sc_trial.specs.Generated.{standard_preamble, generated_records, generated}
 
 -- the limits of a count and a size

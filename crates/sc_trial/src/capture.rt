@@ -12,7 +12,6 @@ ghost use Rattle.sc_trial.specs.declared.capture.TheConstants.{MAX_COUNT, MIN_SI
 
 use super::draw::draw;
 use rand_pcg::Pcg32;
-use sc_draw::generator;
 use sc_outside::{Failed, NoMemory, Pending, Port};
 use sc_rtp::write_head;
 use sc_rtpdump::Head;
@@ -32,6 +31,9 @@ pub const MAX_SIZE: u16 = 1472;
 /// The standard preamble: the line of port 5004 of 127.0.0.1, and 16 bytes with that address and port again.
 const PREAMBLE: [u8; 44] =
     *b"#!rtpplay1.0 127.0.0.1/5004\n\x00\x00\x00\x00\x00\x00\x00\x00\x7f\x00\x00\x01\x13\x8c\x00\x00";
+
+/// The sequence of PCG32 that all draws of the project use.
+const SEQUENCE: u64 = 54;
 
 /// The synchronization source of each packet.
 const SSRC: u32 = 0x1234_5678;
@@ -135,7 +137,7 @@ pub fn gen_capture<P: Port>(
         return Err(GenFault::Memory);
     };
     pending.push(&PREAMBLE);
-    let mut words = generator(seed);
+    let mut words = Pcg32::new(seed, SEQUENCE);
     match put_records(&mut words, count, size, &mut drawn, &mut pending, port) {
         Ok(()) => {}
         Err(Failed) => return Err(GenFault::Write),

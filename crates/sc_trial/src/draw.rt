@@ -2,8 +2,7 @@
 ghost use Rattle.std.specs.Prelude.{◌≡◌, ◌%◌, length};
 ghost use Rattle.rand_pcg.specs.Lcg.{advance};
 ghost use Rattle.rand_pcg.specs.Pcg.{multiplier_64};
-ghost use Rattle.sc_draw.specs.Draw.{word_at};
-ghost use Rattle.sc_trial.specs.Draw.{drawn};
+ghost use Rattle.sc_trial.specs.Draw.{word_at, drawn};
 
 use rand_core::utils::NextWord;
 use rand_pcg::Pcg32;

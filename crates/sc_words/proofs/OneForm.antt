@@ -10,8 +10,10 @@ use Rattle.std.specs.Str.{bytes_eq}
 use Rattle.sc_channel.specs.Channel.{ChannelNumbers, IsChannel, is_channel}
 use Rattle.sc_channel.proofs.ChannelLaws.{is_channel-to, is_channel-from}
 use Rattle.sc_channel.specs.declared.flags.TheConstants.{MAX_FLAGS}
-use Rattle.sc_words.specs.Words.{Command, lose_word, generate, protect, check, bound, certify, number_to, channel_at, channel_of, is_flag, is_lost, is_loss_word, flags_of, lose_at, lose_of, gen_at, gen_of, protect_at, protect_of, check_at, check_of, bound_at, bound_of, certify_of, command_of}
-use Rattle.sc_words.specs.Forms.{character_of, words_of, IsWithinLimits}
+use Rattle.sc_words.specs.declared.words.Kind.{Kind}
+use Rattle.sc_words.specs.declared.words.Kind.TheVariants.{Ms, Layered, Optimal}
+use Rattle.sc_words.specs.Words.{Command, lose_word, generate, protect, check, bound, certify, design, number_to, channel_at, channel_of, is_flag, is_lost, is_loss_word, flags_of, lose_at, lose_of, gen_at, gen_of, protect_at, protect_of, check_at, check_of, bound_at, bound_of, certify_of, kind_of, design_at, design_of, command_of}
+use Rattle.sc_words.specs.Forms.{character_of, kind_word, words_of, IsWithinLimits}
 use Rattle.sc_words.proofs.Forms.{flags_of-word, flags_of-none}
 use Rattle.sc_words.proofs.Numbers.{number_to-to_decimal, number_to-decimal}
 
@@ -251,39 +253,105 @@ certify_of-to (code ∷ cert ∷ []) command is =
     subst (AreItsWords (codes "certify" ∷ code ∷ cert ∷ [])) same (refl, tt)
 certify_of-to (code ∷ cert ∷ more ∷ rest) command is = absurd (cc)
 
+-- a kind's name after another
+named_optimal : (word : List ℕ) (kind : Kind) (is_optimal : Bool) → bytes_eq word (codes "optimal") ≡ is_optimal
+    → cond is_optimal (Some Optimal) None ≡ Some kind → word ≡ kind_word kind
+named_optimal word kind true asked is =
+    let same : Optimal ≡ kind = cc in
+    (bytes_eq-Decides word (codes "optimal")).0 asked ∙ ap kind_word same
+named_optimal word kind false asked is = absurd (cc)
+
+named_layered : (word : List ℕ) (kind : Kind) (is_layered : Bool) → bytes_eq word (codes "layered") ≡ is_layered
+    → cond is_layered (Some Layered) (cond (bytes_eq word (codes "optimal")) (Some Optimal) None) ≡ Some kind → word ≡ kind_word kind
+named_layered word kind true asked is =
+    let same : Layered ≡ kind = cc in
+    (bytes_eq-Decides word (codes "layered")).0 asked ∙ ap kind_word same
+named_layered word kind false asked is = named_optimal word kind (bytes_eq word (codes "optimal")) refl is
+
+named_ms : (word : List ℕ) (kind : Kind) (is_ms : Bool) → bytes_eq word (codes "ms") ≡ is_ms
+    → cond is_ms (Some Ms) (cond (bytes_eq word (codes "layered")) (Some Layered) (cond (bytes_eq word (codes "optimal")) (Some Optimal) None)) ≡ Some kind
+    → word ≡ kind_word kind
+named_ms word kind true asked is =
+    let same : Ms ≡ kind = cc in
+    (bytes_eq-Decides word (codes "ms")).0 asked ∙ ap kind_word same
+named_ms word kind false asked is = named_layered word kind (bytes_eq word (codes "layered")) refl is
+
+kind_of-to : (word : List ℕ) (kind : Kind) → kind_of word ≡ Some kind → word ≡ kind_word kind
+kind_of-to word kind is = named_ms word kind (bytes_eq word (codes "ms")) refl is
+
+kind_of-word : (kind : Kind) → kind_of (kind_word kind) ≡ Some kind
+kind_of-word Ms = refl
+kind_of-word Layered = refl
+kind_of-word Optimal = refl
+
+record DesignParts (k : Option Kind) (o : Option ChannelNumbers) (command : Command) : Type 0 where
+  kind : Kind
+  channel : ChannelNumbers
+  k_is : k ≡ Some kind
+  o_is : o ≡ Some channel
+  is : design kind channel ≡ command
+
+design_at-to : (k : Option Kind) (o : Option ChannelNumbers) (command : Command) → design_at k o ≡ Some command → DesignParts k o command
+design_at-to (Some kind) (Some c) command is = record { kind = kind; channel = c; k_is = refl; o_is = refl; is = cc }
+design_at-to (Some kind) None command is = absurd (cc)
+design_at-to None o command is = absurd (cc)
+
+design_of-to : (words : List (List ℕ)) (command : Command) → design_of words ≡ Some command → AreItsWords (codes "design" ∷ words) command
+design_of-to [] command is = absurd (cc)
+design_of-to (kind ∷ []) command is = absurd (cc)
+design_of-to (kind ∷ w ∷ []) command is = absurd (cc)
+design_of-to (kind ∷ w ∷ b ∷ []) command is = absurd (cc)
+design_of-to (kind ∷ w ∷ b ∷ n ∷ []) command is = absurd (cc)
+design_of-to (kind ∷ w ∷ b ∷ n ∷ t ∷ []) command is =
+    let parts = design_at-to (kind_of kind) (channel_of w b n t) command is in
+    let texts = channel_of-to w b n t parts.channel parts.o_is in
+    let kind_text : kind ≡ kind_word parts.kind = kind_of-to kind parts.kind parts.k_is in
+    let w_text : w ≡ decimal parts.channel.w = texts.w_is in
+    let b_text : b ≡ decimal parts.channel.b = texts.b_is in
+    let n_text : n ≡ decimal parts.channel.n = texts.n_is in
+    let t_text : t ≡ decimal parts.channel.t = texts.t_is in
+    subst (AreItsWords (codes "design" ∷ kind ∷ w ∷ b ∷ n ∷ t ∷ [])) parts.is (cc, texts.channel)
+design_of-to (kind ∷ w ∷ b ∷ n ∷ t ∷ more ∷ rest) command is = absurd (cc)
+
 -- one command's name after another
+named_design : (name : List ℕ) (words : List (List ℕ)) (command : Command) (is_design : Bool) → bytes_eq name (codes "design") ≡ is_design
+    → cond is_design (design_of words) None ≡ Some command → AreItsWords (name ∷ words) command
+named_design name words command true asked is =
+    subst (λ n. AreItsWords (n ∷ words) command) (sym ((bytes_eq-Decides name (codes "design")).0 asked)) (design_of-to words command is)
+named_design name words command false asked is = absurd (cc)
+
 named_certify : (name : List ℕ) (words : List (List ℕ)) (command : Command) (is_certify : Bool) → bytes_eq name (codes "certify") ≡ is_certify
-    → cond is_certify (certify_of words) None ≡ Some command → AreItsWords (name ∷ words) command
+    → cond is_certify (certify_of words) (cond (bytes_eq name (codes "design")) (design_of words) None) ≡ Some command → AreItsWords (name ∷ words) command
 named_certify name words command true asked is =
     subst (λ n. AreItsWords (n ∷ words) command) (sym ((bytes_eq-Decides name (codes "certify")).0 asked)) (certify_of-to words command is)
-named_certify name words command false asked is = absurd (cc)
+named_certify name words command false asked is = named_design name words command (bytes_eq name (codes "design")) refl is
 
 named_bound : (name : List ℕ) (words : List (List ℕ)) (command : Command) (is_bound : Bool) → bytes_eq name (codes "bound") ≡ is_bound
-    → cond is_bound (bound_of words) (cond (bytes_eq name (codes "certify")) (certify_of words) None) ≡ Some command → AreItsWords (name ∷ words) command
+    → cond is_bound (bound_of words) (cond (bytes_eq name (codes "certify")) (certify_of words) (cond (bytes_eq name (codes "design")) (design_of words) None)) ≡ Some command → AreItsWords (name ∷ words) command
 named_bound name words command true asked is =
     subst (λ n. AreItsWords (n ∷ words) command) (sym ((bytes_eq-Decides name (codes "bound")).0 asked)) (bound_of-to words command is)
 named_bound name words command false asked is = named_certify name words command (bytes_eq name (codes "certify")) refl is
 
 named_check : (name : List ℕ) (words : List (List ℕ)) (command : Command) (is_check : Bool) → bytes_eq name (codes "check") ≡ is_check
-    → cond is_check (check_of words) (cond (bytes_eq name (codes "bound")) (bound_of words) (cond (bytes_eq name (codes "certify")) (certify_of words) None)) ≡ Some command → AreItsWords (name ∷ words) command
+    → cond is_check (check_of words) (cond (bytes_eq name (codes "bound")) (bound_of words) (cond (bytes_eq name (codes "certify")) (certify_of words) (cond (bytes_eq name (codes "design")) (design_of words) None))) ≡ Some command → AreItsWords (name ∷ words) command
 named_check name words command true asked is =
     subst (λ n. AreItsWords (n ∷ words) command) (sym ((bytes_eq-Decides name (codes "check")).0 asked)) (check_of-to words command is)
 named_check name words command false asked is = named_bound name words command (bytes_eq name (codes "bound")) refl is
 
 named_protect : (name : List ℕ) (words : List (List ℕ)) (command : Command) (is_protect : Bool) → bytes_eq name (codes "protect") ≡ is_protect
-    → cond is_protect (protect_of words) (cond (bytes_eq name (codes "check")) (check_of words) (cond (bytes_eq name (codes "bound")) (bound_of words) (cond (bytes_eq name (codes "certify")) (certify_of words) None))) ≡ Some command → AreItsWords (name ∷ words) command
+    → cond is_protect (protect_of words) (cond (bytes_eq name (codes "check")) (check_of words) (cond (bytes_eq name (codes "bound")) (bound_of words) (cond (bytes_eq name (codes "certify")) (certify_of words) (cond (bytes_eq name (codes "design")) (design_of words) None)))) ≡ Some command → AreItsWords (name ∷ words) command
 named_protect name words command true asked is =
     subst (λ n. AreItsWords (n ∷ words) command) (sym ((bytes_eq-Decides name (codes "protect")).0 asked)) (protect_of-to words command is)
 named_protect name words command false asked is = named_check name words command (bytes_eq name (codes "check")) refl is
 
 named_gen : (name : List ℕ) (words : List (List ℕ)) (command : Command) (is_gen : Bool) → bytes_eq name (codes "gen") ≡ is_gen
-    → cond is_gen (gen_of words) (cond (bytes_eq name (codes "protect")) (protect_of words) (cond (bytes_eq name (codes "check")) (check_of words) (cond (bytes_eq name (codes "bound")) (bound_of words) (cond (bytes_eq name (codes "certify")) (certify_of words) None)))) ≡ Some command → AreItsWords (name ∷ words) command
+    → cond is_gen (gen_of words) (cond (bytes_eq name (codes "protect")) (protect_of words) (cond (bytes_eq name (codes "check")) (check_of words) (cond (bytes_eq name (codes "bound")) (bound_of words) (cond (bytes_eq name (codes "certify")) (certify_of words) (cond (bytes_eq name (codes "design")) (design_of words) None))))) ≡ Some command → AreItsWords (name ∷ words) command
 named_gen name words command true asked is =
     subst (λ n. AreItsWords (n ∷ words) command) (sym ((bytes_eq-Decides name (codes "gen")).0 asked)) (gen_of-to words command is)
 named_gen name words command false asked is = named_protect name words command (bytes_eq name (codes "protect")) refl is
 
 named_lose : (name : List ℕ) (words : List (List ℕ)) (command : Command) (is_lose : Bool) → bytes_eq name (codes "lose") ≡ is_lose
-    → cond is_lose (lose_of words) (cond (bytes_eq name (codes "gen")) (gen_of words) (cond (bytes_eq name (codes "protect")) (protect_of words) (cond (bytes_eq name (codes "check")) (check_of words) (cond (bytes_eq name (codes "bound")) (bound_of words) (cond (bytes_eq name (codes "certify")) (certify_of words) None))))) ≡ Some command → AreItsWords (name ∷ words) command
+    → cond is_lose (lose_of words) (cond (bytes_eq name (codes "gen")) (gen_of words) (cond (bytes_eq name (codes "protect")) (protect_of words) (cond (bytes_eq name (codes "check")) (check_of words) (cond (bytes_eq name (codes "bound")) (bound_of words) (cond (bytes_eq name (codes "certify")) (certify_of words) (cond (bytes_eq name (codes "design")) (design_of words) None)))))) ≡ Some command → AreItsWords (name ∷ words) command
 named_lose name words command true asked is =
     subst (λ n. AreItsWords (n ∷ words) command) (sym ((bytes_eq-Decides name (codes "lose")).0 asked)) (lose_of-to words command is)
 named_lose name words command false asked is = named_gen name words command (bytes_eq name (codes "gen")) refl is
@@ -320,3 +388,4 @@ command_of-words_of (check code workers) within =
     rw (workers_is, least) refl
 command_of-words_of (bound c) within = rw (channel_of-decimal c within) refl
 command_of-words_of (certify code cert) within = refl
+command_of-words_of (design kind c) within = rw (kind_of-word kind, channel_of-decimal c within) refl

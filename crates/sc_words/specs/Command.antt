@@ -1,8 +1,8 @@
 -- What a command that was read means.
 use Rattle.std.specs.Prelude.{◌≡◌, ◌≤◌, true, map}
 use Rattle.sc_words.specs.declared.words.Command.{Command}
-use Rattle.sc_words.specs.declared.words.Command.TheVariants.{LoseWord, Gen, Protect, Check, Bound, Certify}
-use Rattle.sc_words.specs.Words.{Command as Meaning, lose_word, generate, protect, check, bound, certify, is_lost, is_loss_word}
+use Rattle.sc_words.specs.declared.words.Command.TheVariants.{LoseWord, Gen, Protect, Check, Bound, Certify, Design}
+use Rattle.sc_words.specs.Words.{Command as Meaning, lose_word, generate, protect, check, bound, certify, design, is_lost, is_loss_word}
 
 -- the command that is asked for
 abbrev pub meaning : Command → Meaning
@@ -12,6 +12,7 @@ meaning (Protect code size) = protect code.now size
 meaning (Check code workers) = check code.now workers
 meaning (Bound channel) = bound channel
 meaning (Certify code cert) = certify code.now cert.now
+meaning (Design kind channel) = design kind channel
 
 -- the words that a command keeps are of their forms
 abbrev pub HasItsForms : Command → Type 0
@@ -21,3 +22,4 @@ HasItsForms (Protect code size) = (12 ≤ size) × (size ≤ 1472)
 HasItsForms (Check code workers) = (1 ≤ workers) × (workers ≤ 64)
 HasItsForms (Bound channel) = Unit {0}
 HasItsForms (Certify code cert) = Unit {0}
+HasItsForms (Design kind channel) = Unit {0}

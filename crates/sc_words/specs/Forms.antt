@@ -3,12 +3,20 @@ use Rattle.std.specs.Prelude.{ℕ, ◌≤◌, Bool, true, false, List, [], ◌�
 use Rattle.std.specs.Fmt.{decimal}
 use Rattle.sc_channel.specs.Channel.{IsChannel}
 use Rattle.sc_channel.specs.declared.flags.TheConstants.{MAX_FLAGS}
-use Rattle.sc_words.specs.Words.{Command, lose_word, generate, protect, check, bound, certify}
+use Rattle.sc_words.specs.declared.words.Kind.{Kind}
+use Rattle.sc_words.specs.declared.words.Kind.TheVariants.{Ms, Layered, Optimal}
+use Rattle.sc_words.specs.Words.{Command, lose_word, generate, protect, check, bound, certify, design}
 
 -- the character of a flag: 1 (49) where the slot is lost, and else 0 (48)
 abbrev pub character_of : Bool → ℕ
 character_of true = 49
 character_of false = 48
+
+-- the word that names a kind of codes
+abbrev pub kind_word : Kind → List ℕ
+kind_word Ms = codes "ms"
+kind_word Layered = codes "layered"
+kind_word Optimal = codes "optimal"
 
 -- the words that ask for a command, as bytes; numbers are written as they are printed
 abbrev pub words_of : Command → List (List ℕ)
@@ -19,6 +27,8 @@ words_of (protect code size) = codes "protect" ∷ code ∷ decimal size ∷ []
 words_of (check code workers) = codes "check" ∷ code ∷ decimal workers ∷ []
 words_of (bound channel) = codes "bound" ∷ decimal channel.w ∷ decimal channel.b ∷ decimal channel.n ∷ decimal channel.t ∷ []
 words_of (certify code cert) = codes "certify" ∷ code ∷ cert ∷ []
+words_of (design kind channel) =
+    codes "design" ∷ kind_word kind ∷ decimal channel.w ∷ decimal channel.b ∷ decimal channel.n ∷ decimal channel.t ∷ []
 
 -- the limits of what a command may ask for
 abbrev pub IsWithinLimits : Command → Type 0
@@ -28,3 +38,4 @@ IsWithinLimits (protect code size) = (12 ≤ size) × (size ≤ 1472)
 IsWithinLimits (check code workers) = (1 ≤ workers) × (workers ≤ 64)
 IsWithinLimits (bound channel) = IsChannel channel
 IsWithinLimits (certify code cert) = Unit {0}
+IsWithinLimits (design kind channel) = IsChannel channel

@@ -5,6 +5,8 @@ use Rattle.std.specs.Str.{all_ascii_digits, bytes_eq}
 use Rattle.std.specs.Str.Parse.{digits_value}
 use Rattle.sc_channel.specs.Channel.{ChannelNumbers, is_channel}
 use Rattle.sc_channel.specs.declared.flags.TheConstants.{MAX_FLAGS}
+use Rattle.sc_words.specs.declared.words.Kind.{Kind}
+use Rattle.sc_words.specs.declared.words.Kind.TheVariants.{Ms, Layered, Optimal}
 
 -- a word has one character, or begins with one above the zero (48): with no sign and no leading zero
 abbrev pub begins_plain : List ℕ → Bool
@@ -54,6 +56,7 @@ pub data Command : Type 0 where
   check : List ℕ → ℕ → Command
   bound : ChannelNumbers → Command
   certify : List ℕ → List ℕ → Command
+  design : Kind → ChannelNumbers → Command
 
 -- the command that a channel and flags ask for, where both are there
 abbrev pub lose_at : Option ChannelNumbers → Option (List Bool) → Option Command
@@ -111,6 +114,23 @@ abbrev pub certify_of : List (List ℕ) → Option Command
 certify_of (code ∷ cert ∷ []) = Some (certify code cert)
 certify_of _ = None
 
+-- the kind of codes that a word names
+abbrev pub kind_of : List ℕ → Option Kind
+kind_of word =
+    if bytes_eq word (codes "ms") then Some Ms
+    else (if bytes_eq word (codes "layered") then Some Layered
+    else (if bytes_eq word (codes "optimal") then Some Optimal else None))
+
+-- the command that a kind and a channel ask for, where both are there
+abbrev pub design_at : Option Kind → Option ChannelNumbers → Option Command
+design_at (Some kind) (Some channel) = Some (design kind channel)
+design_at _ _ = None
+
+-- KIND W B N T
+abbrev pub design_of : List (List ℕ) → Option Command
+design_of (kind ∷ w ∷ b ∷ n ∷ t ∷ []) = design_at (kind_of kind) (channel_of w b n t)
+design_of _ = None
+
 -- the command whose form the words have: its name, then its words
 abbrev pub command_of : List (List ℕ) → Option Command
 command_of [] = None
@@ -120,7 +140,8 @@ command_of (name ∷ words) =
     else (if bytes_eq name (codes "protect") then protect_of words
     else (if bytes_eq name (codes "check") then check_of words
     else (if bytes_eq name (codes "bound") then bound_of words
-    else (if bytes_eq name (codes "certify") then certify_of words else None)))))
+    else (if bytes_eq name (codes "certify") then certify_of words
+    else (if bytes_eq name (codes "design") then design_of words else None))))))
 
 -- the bytes of each word
 abbrev pub texts : {A : Type 0} → List (String A) → List (List ℕ)

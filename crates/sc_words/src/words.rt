@@ -2,7 +2,7 @@
 
 ghost use Rattle.std.specs.Prelude.{◌≡◌, ◌≤◌, true, Some, IfOk, IfSome, map};
 ghost use Rattle.std.specs.Option.{option_map};
-ghost use Rattle.sc_words.specs.Words.{number_to, begins_plain, channel_of, is_lost, flags_of, is_loss_word, lose_of, gen_of, protect_of, check_of, bound_of, certify_of, command_of, texts};
+ghost use Rattle.sc_words.specs.Words.{number_to, begins_plain, channel_of, is_lost, flags_of, is_loss_word, lose_of, gen_of, protect_of, check_of, bound_of, certify_of, kind_of, design_of, command_of, texts};
 ghost use Rattle.sc_words.specs.Command.{meaning, HasItsForms};
 
 use sc_channel::{Channel, Flags, MAX_FLAGS};
@@ -19,6 +19,17 @@ const MAX_SIZE: u16 = 1_472;
 
 /// The most workers of a check.
 const MAX_WORKERS: u32 = 64;
+
+/// A kind of codes to design.
+#[derive(Copy, Clone, Debug, PartialEq, Eq)]
+pub enum Kind {
+    /// `ms`: the burst code, for channels with at most one loss anywhere in a window.
+    Ms,
+    /// `layered`: layered codes.
+    Layered,
+    /// `optimal`: rate-optimal codes.
+    Optimal,
+}
 
 /// What a command line asks for. The forms of the words are of this project.
 #[derive(Copy, Clone, Debug, PartialEq, Eq)]
@@ -65,15 +76,23 @@ pub enum Command<'a> {
         /// The name of the certificate's file.
         cert: &'a str,
     },
+    /// `design KIND W B N T`: write the code file of the first candidate of a kind that meets a channel.
+    Design {
+        /// The kind of codes: `ms`, `layered` or `optimal`.
+        kind: Kind,
+        /// The channel.
+        channel: Channel,
+    },
 }
 
 /// The command whose form the words have, the command's name first, and `None` exactly where they
 /// have no form. It takes no memory.
 ///
-/// The forms are `lose W B N T LOSSWORD`, `gen SEED COUNT SIZE`, `protect CODE SIZE`, `check CODE WORKERS`, `bound W B N T` and
-/// `certify CODE CERT`. Numbers are decimal, without sign and without a leading zero. W, B, N and T are a channel; the loss word
-/// is 0 to 4,000,000 characters `0` and `1`. The seed has at most 64 bits, the count is at most 3,999,960, a size is 12 to
-/// 1,472, and there are 1 to 64 workers. A file's name is any word. The forms are of this project.
+/// The forms are `lose W B N T LOSSWORD`, `gen SEED COUNT SIZE`, `protect CODE SIZE`, `check CODE WORKERS`, `bound W B N T`,
+/// `certify CODE CERT` and `design KIND W B N T`. Numbers are decimal, without sign and without a leading zero. W, B, N and T
+/// are a channel; the loss word is 0 to 4,000,000 characters `0` and `1`. The seed has at most 64 bits, the count is at most
+/// 3,999,960, a size is 12 to 1,472, and there are 1 to 64 workers. A kind is `ms`, `layered` or `optimal`. A file's name is
+/// any word. The forms are of this project.
 pub fn read_words(words: &Vec<String>) -> Option<Command<'_>>
     ensures command { command_of (texts words.now.items) ≡ option_map meaning result }
     ensures forms { IfSome result HasItsForms }
@@ -85,6 +104,7 @@ pub fn read_words(words: &Vec<String>) -> Option<Command<'_>>
         [name, rest @ ..] if name.as_str() == "check" => read_check(rest),
         [name, rest @ ..] if name.as_str() == "bound" => read_bound(rest),
         [name, rest @ ..] if name.as_str() == "certify" => read_certify(rest),
+        [name, rest @ ..] if name.as_str() == "design" => read_design(rest),
         _ => None,
     }
 }
@@ -206,6 +226,36 @@ fn read_certify(words: &[String]) -> Option<Command<'_>>
     }
 }
 
+/// The words after `design`.
+fn read_design(words: &[String]) -> Option<Command<'_>>
+    ensures command { design_of (texts words.now) ≡ option_map meaning result }
+    ensures forms { IfSome result HasItsForms }
+{
+    match words {
+        [kind, w, b, n, t] => {
+            let kind = read_kind(kind.as_str())?;
+            let channel = read_channel(w.as_str(), b.as_str(), n.as_str(), t.as_str())?;
+            Some(Command::Design { kind, channel })
+        }
+        _ => None,
+    }
+}
+
+/// The kind that a word names.
+fn read_kind(word: &str) -> Option<Kind>
+    ensures { result ≡ kind_of word.now }
+{
+    if word == "ms" {
+        Some(Kind::Ms)
+    } else if word == "layered" {
+        Some(Kind::Layered)
+    } else if word == "optimal" {
+        Some(Kind::Optimal)
+    } else {
+        None
+    }
+}
+
 /// The number of at most so much that a word writes in decimal, without sign and without a leading zero.
 fn number_word(word: &str, most: u64) -> Option<u64>
     ensures number { result ≡ number_to most word.now }
@@ -254,7 +304,7 @@ pub fn read_loss_word(alloc: Global, word: &str) -> Result<Flags, NoMemory>
 
 #[cfg(test)]
 mod tests {
-    use super::{Command, is_loss_word, number_word, read_loss_word, read_words};
+    use super::{Command, Kind, is_loss_word, number_word, read_loss_word, read_words};
     use crate::word_laws::{one_form, one_numeral};
     use std::alloc::{AllocError, Global};
     use std::test::Fail;
@@ -434,6 +484,39 @@ mod tests {
                     _ => false,
                 },
                 None => numbers.is_none() && files.is_none(),
+            };
+            assert!(rt; right, "at {line}");
+        }
+        Ok(())
+    }
+
+    #[test]
+    fn reads_the_forms_of_design(rt: HostRuntime) -> Result<(), Fail> {
+        for (line, want) in [
+            ("design ms 3 2 1 2", Some((Kind::Ms, (3, 2, 1, 2)))),
+            ("design layered 2 1 1 1", Some((Kind::Layered, (2, 1, 1, 1)))),
+            (
+                "design optimal 11 4 2 10",
+                Some((Kind::Optimal, (11, 4, 2, 10))),
+            ),
+            ("design MS 3 2 1 2", None),
+            ("design midas 3 2 1 2", None),
+            ("design ms 3 2 1 3", None),
+            ("design ms 3 2 1", None),
+            ("design 3 2 1 2", None),
+            ("design ms 3 2 1 2 0", None),
+            ("design ms 3 2 01 2", None),
+        ] {
+            let words = words_of(rt.alloc(), line)?;
+            let right = match read_words(&words) {
+                Some(command) => match command {
+                    Command::Design { kind, channel } => {
+                        let numbers = (channel.w(), channel.b(), channel.n(), channel.t());
+                        want == Some((kind, numbers))
+                    }
+                    _ => false,
+                },
+                None => want.is_none(),
             };
             assert!(rt; right, "at {line}");
         }

@@ -1,6 +1,6 @@
 -- What the jobs of the program's commands keep, and how they end.
 use Rattle.std.proofs.lemmas.Bool.Decides.{nat_tests}
-use Rattle.std.proofs.Common.{◌≡◌, ◌∷◌, ◌++◌, ◌≢◌, ◌⊎◌, inl, inr, ℕ, ◌<◌, ◌≤◌, ◌∙◌, Bool, true, false, cond, nat_lt, Option, None, Some, List, [], length, Result, Ok, Err, refl, sym, ap, subst, arith}
+use Rattle.std.proofs.Common.{zero, suc, ◌+◌, is_none, ◌≡◌, ◌∷◌, ◌++◌, ◌≢◌, ◌⊎◌, inl, inr, ℕ, ◌<◌, ◌≤◌, ◌∙◌, Bool, true, false, cond, nat_lt, Option, None, Some, List, [], length, Result, Ok, Err, refl, sym, ap, subst, arith}
 use Rattle.sc_outside.specs.Ends.{Job, told_as, IsJob, input, write, Ends}
 use Rattle.sc_outside.specs.Whole.{PutsAll, WriteFailed}
 use Rattle.sc_outside.specs.Port.{Told}
@@ -33,9 +33,18 @@ use Rattle.sc_slots.proofs.ProtectedLaws.{protecting-IsJob, protecting-decided}
 use Rattle.sc_trial.specs.Generated.{generated}
 use Rattle.streamcode.specs.declared.end.Role.{Role}
 use Rattle.streamcode.specs.declared.end.End.{End}
-use Rattle.streamcode.specs.declared.end.End.TheVariants.{Thinned, Generated, Protected, Bound, Accepted, Refused, CertificateRefused, LossRefused, Usage, Capture, MoreRecords, FewerRecords, FileRefused, FileTooLong, PacketTooWide, PacketTooLong, TooManyRecords, TooManySlots, TooManyClasses, ReadFault, WriteFault, NoMemory}
-use Rattle.streamcode.specs.End.{status_of, end_of_drop, end_of_protect}
-use Rattle.streamcode.specs.Jobs.{refusal, giving, lose_by, lose_job, gen_job, protect_job, check_by, check_job, bound_job, certify_by, certify_job, IsSilent}
+use Rattle.streamcode.specs.declared.end.End.TheVariants.{Thinned, Generated, Protected, Bound, Designed, Accepted, Refused, CertificateRefused, LossRefused, Usage, Capture, MoreRecords, FewerRecords, FileRefused, FileTooLong, PacketTooWide, PacketTooLong, TooManyRecords, TooManySlots, TooManySymbols, NoCode, TooManyClasses, ReadFault, WriteFault, NoMemory}
+use Rattle.streamcode.specs.End.{status_of, end_of_drop, end_of_protect, end_of_design}
+use Rattle.streamcode.specs.Jobs.{refusal, giving, lose_by, lose_job, gen_job, protect_job, check_by, check_job, bound_job, certify_by, certify_job, maker_of, design_text, design_by, design_job, IsSilent}
+use Rattle.sc_code.specs.Code.{Code}
+use Rattle.sc_check.specs.Answer.{refuted_of}
+use Rattle.sc_optimal.specs.declared.design.Found.{Found}
+use Rattle.sc_optimal.specs.declared.kind.DesignFault.{DesignFault}
+use Rattle.sc_optimal.specs.declared.kind.DesignFault.TheVariants as design
+use Rattle.sc_optimal.specs.declared.kind.MakerKind.{MakerKind}
+use Rattle.sc_optimal.specs.Candidates.{candidate, candidate_count, candidate_width}
+use Rattle.sc_optimal.specs.Design.{is_not_burst, found_at, first_from, design_of}
+use Rattle.sc_words.specs.declared.words.Kind.{Kind}
 use Rattle.streamcode.specs.Bound.{bound_line}
 use Rattle.streamcode.specs.Verdict.{verdict_end, meets_text, fails_text, verdict_text}
 
@@ -49,6 +58,9 @@ IsOfInput Refused = Unit {0}
 IsOfInput (Bound kept period) = Unit {0}
 IsOfInput (CertificateRefused residue) = Unit {0}
 IsOfInput (TooManyClasses count) = Unit {0}
+IsOfInput (Designed candidate k n) = Unit {0}
+IsOfInput (TooManySymbols symbols) = Unit {0}
+IsOfInput NoCode = Unit {0}
 IsOfInput (LossRefused window) = Unit {0}
 IsOfInput (FileRefused role fault) = Unit {0}
 IsOfInput (FileTooLong role) = Unit {0}
@@ -88,6 +100,9 @@ of_input_inside (PacketTooLong index len) h = record { formed = λ e. omega (ari
 of_input_inside TooManyRecords h = record { formed = λ e. omega (arith, e); inside = inl (omega arith) }
 of_input_inside TooManySlots h = record { formed = λ e. omega (arith, e); inside = inl (omega arith) }
 of_input_inside (TooManyClasses count) h = record { formed = λ e. omega (arith, e); inside = inr (omega arith) }
+of_input_inside (Designed candidate k n) h = record { formed = λ e. omega (arith, e); inside = inl (omega arith) }
+of_input_inside (TooManySymbols symbols) h = record { formed = λ e. omega (arith, e); inside = inl (omega arith) }
+of_input_inside NoCode h = record { formed = λ e. omega (arith, e); inside = inr (omega arith) }
 of_input_inside Usage h = absurd h
 of_input_inside ReadFault h = absurd h
 of_input_inside WriteFault h = absurd h
@@ -194,6 +209,44 @@ certify_by-is None file certificate = giving-is Accepted (bound_line file.code c
 
 pub certify_job-is : (file : CodeFile) (certificate : CertificateNumbers) → IsProgramJob (certify_job file certificate)
 certify_job-is file certificate = certify_by-is (bad_residue file.channel certificate) file certificate
+
+-- what is told for a kind and a channel isn't want of memory
+abbrev IsDesignAnswer : Result Found DesignFault → Type 0
+IsDesignAnswer (Ok found) = Unit {0}
+IsDesignAnswer (Err design.NotBurst) = Unit {0}
+IsDesignAnswer (Err (design.TooWide symbols)) = Unit {0}
+IsDesignAnswer (Err (design.TooManyClasses count)) = Unit {0}
+IsDesignAnswer (Err design.NoCode) = Unit {0}
+IsDesignAnswer (Err design.Memory) = ⊥
+
+one_answer : (test : Bool) (a b : Result Found DesignFault) → IsDesignAnswer a → IsDesignAnswer b → IsDesignAnswer (cond test a b)
+one_answer true a b ha hb = ha
+one_answer false a b ha hb = hb
+
+first_answer : (kind : MakerKind) (channel : ChannelNumbers) (c n : ℕ) → IsDesignAnswer (first_from kind channel c n)
+unfolding first_from
+first_answer kind channel c zero = tt
+first_answer kind channel c (suc n) =
+    one_answer (is_none (refuted_of (candidate kind channel c) channel)) (Ok (found_at kind channel c)) (first_from kind channel (c + 1) n) tt
+    (first_answer kind channel (c + 1) n)
+
+design_answer : (kind : MakerKind) (channel : ChannelNumbers) → IsDesignAnswer (design_of kind channel)
+unfolding design_of
+design_answer kind channel =
+    one_answer (is_not_burst kind channel) _ _ tt
+    (one_answer (nat_lt 64 (candidate_width kind channel)) _ _ tt
+    (one_answer (nat_lt 1000000 (class_count channel)) _ _ tt (first_answer kind channel 0 (candidate_count kind))))
+
+design_by-is : (channel : ChannelNumbers) (answer : Result Found DesignFault) → IsDesignAnswer answer → IsProgramJob (design_by channel answer)
+design_by-is channel (Ok found) h = giving-is (Designed found.candidate found.code.k (found.code.k + found.code.r)) (design_text channel found) tt
+design_by-is channel (Err design.NotBurst) h = record { run = refusal-is true NoCode; of_input = λ input. tt }
+design_by-is channel (Err (design.TooWide symbols)) h = record { run = refusal-is true (TooManySymbols symbols); of_input = λ input. tt }
+design_by-is channel (Err (design.TooManyClasses count)) h = record { run = refusal-is true (TooManyClasses count); of_input = λ input. tt }
+design_by-is channel (Err design.NoCode) h = record { run = refusal-is true NoCode; of_input = λ input. tt }
+design_by-is channel (Err design.Memory) h = absurd h
+
+pub design_job-is : (kind : Kind) (channel : ChannelNumbers) → IsProgramJob (design_job kind channel)
+design_job-is kind channel = design_by-is channel (design_of (maker_of kind) channel) (design_answer (maker_of kind) channel)
 
 decided_of_input : (result : Result Done ProtectFault) → IsDecidedAnswer result → IsOfInput (end_of_protect result)
 decided_of_input (Ok done) h = tt
@@ -353,3 +406,41 @@ pub certify_gives : (file : CodeFile) (certificate : CertificateNumbers) → Non
 certify_gives file certificate e silent =
     let there : IsSilent (certify_by None file certificate) = subst (λ r. IsSilent (certify_by r file certificate)) (sym e) silent in
     cc there.nothing
+
+-- ---- how `design` ends
+design_by_memory : (channel : ChannelNumbers) (answer : Result Found DesignFault) (told : Told) → Ends (design_by channel answer) told told NoMemory
+design_by_memory channel (Ok found) told = Ends-no_memory (design_by channel (Ok found)) told refl
+design_by_memory channel (Err fault) told = Ends-no_memory (refusal true (end_of_design fault)) told refl
+
+pub design_found_memory : (channel : ChannelNumbers) (found : Found) (told : Told) → Ends (design_by channel (Ok found)) told told NoMemory
+design_found_memory channel found told = design_by_memory channel (Ok found) told
+
+pub design_memory : (kind : Kind) (channel : ChannelNumbers) (told : Told) → Ends (design_job kind channel) told told NoMemory
+design_memory kind channel told = design_by_memory channel (design_of (maker_of kind) channel) told
+
+-- memory ran out, or the fault is told
+pub design_refused : (kind : Kind) (channel : ChannelNumbers) (told : Told) (result : Result Found DesignFault) (fault : DesignFault)
+    → (result ≡ Err design.Memory) ⊎ (result ≡ design_of (maker_of kind) channel) → result ≡ Err fault
+    → Ends (design_job kind channel) told told (end_of_design fault)
+design_refused kind channel told result fault (inl memory) is =
+    let same : fault ≡ design.Memory = cc in
+    subst (λ f. Ends (design_job kind channel) told told (end_of_design f)) (sym same) (design_memory kind channel told)
+design_refused kind channel told result fault (inr answer) is =
+    subst (λ a. Ends (design_by channel a) told told (end_of_design fault)) (sym is ∙ answer)
+    (Ends-at_once (end_of_design fault) ReadFault WriteFault NoMemory true told)
+
+pub design_given : (kind : Kind) (channel : ChannelNumbers) (result : Result Found DesignFault) (found : Found) (end : End) (old new : Told)
+    → (result ≡ Err design.Memory) ⊎ (result ≡ design_of (maker_of kind) channel) → result ≡ Ok found
+    → Ends (design_by channel (Ok found)) old new end → Ends (design_job kind channel) old new end
+design_given kind channel result found end old new (inl memory) is h = absurd (cc)
+design_given kind channel result found end old new (inr answer) is h = subst (λ a. Ends (design_by channel a) old new end) (sym is ∙ answer) h
+
+-- a code file isn't empty
+design_by_gives : (channel : ChannelNumbers) (found : Found) → IsSilent (design_by channel (Ok found)) → ⊥
+design_by_gives channel found silent = cc silent.nothing
+
+pub design_gives : (kind : Kind) (channel : ChannelNumbers) (result : Result Found DesignFault) (found : Found)
+    → (result ≡ Err design.Memory) ⊎ (result ≡ design_of (maker_of kind) channel) → result ≡ Ok found → IsSilent (design_job kind channel) → ⊥
+design_gives kind channel result found (inl memory) is silent = absurd (cc)
+design_gives kind channel result found (inr answer) is silent =
+    design_by_gives channel found (subst (λ a. IsSilent (design_by channel a)) (sym answer ∙ is) silent)

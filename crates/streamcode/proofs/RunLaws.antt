@@ -17,8 +17,8 @@ use Rattle.streamcode.specs.Files.{by_reading, by_bytes, certificate_plan}
 use Rattle.streamcode.specs.Jobs.{refusal, protect_job, check_job, certify_job}
 use Rattle.streamcode.specs.Plans.{Plan, owes, fetches, most_fetched, due_by, due_of, PlanEnds, IsSilentPlan, LacksOne}
 use Rattle.streamcode.specs.Runs.{command_plan, files_of, IsDueStatus, ReadRose, IsOutsideStatus, IsQuiet}
-use Rattle.sc_words.specs.Words.{Command, lose_word, generate, protect, check, bound, certify}
-use Rattle.streamcode.proofs.JobLaws.{not_inside, of_input_inside, IsRunJob, IsProgramJob, refusal-is, lose_job-is, gen_job-is, protect_job-is, check_job-is, bound_job-is, certify_job-is, file_refused-is, file_too_long-is}
+use Rattle.sc_words.specs.Words.{Command, lose_word, generate, protect, check, bound, certify, design}
+use Rattle.streamcode.proofs.JobLaws.{not_inside, of_input_inside, IsRunJob, IsProgramJob, refusal-is, lose_job-is, gen_job-is, protect_job-is, check_job-is, bound_job-is, certify_job-is, design_job-is, file_refused-is, file_too_long-is}
 
 -- ---- what the plans of commands keep
 abbrev IsAmong : List ℕ → List (List ℕ) → Type 0
@@ -63,6 +63,7 @@ program_plan (generate seed count size) = gen_job-is seed count size
 program_plan (protect code size) = (inl refl, bytes_plan Code code_reading (code ∷ []) (λ file. owes (protect_job file size)) (λ file. protect_job-is file size))
 program_plan (check code workers) = (inl refl, bytes_plan Code code_reading (code ∷ []) (λ file. owes (check_job file)) (λ file. check_job-is file))
 program_plan (bound channel) = bound_job-is channel
+program_plan (design kind channel) = design_job-is kind channel
 program_plan (certify code cert) = (
   inl refl,
   bytes_plan Code code_reading (code ∷ cert ∷ []) (λ file. certificate_plan cert (λ certificate. owes (certify_job file certificate)))

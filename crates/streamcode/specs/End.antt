@@ -14,10 +14,12 @@ use Rattle.sc_codefile.specs.declared.fault.FileFault.TheVariants.{NotJson, Shap
 use Rattle.sc_slots.specs.declared.protect.ProtectFault.{ProtectFault}
 use Rattle.sc_slots.specs.declared.protect.ProtectFault.TheVariants.{TooWide, Dump as Unread, TooManyRecords as TooManyRecordsThere, TooLong, TooManySlots as TooManySlotsThere, Write as Unwritten, Memory as NoRoomThere}
 use Rattle.sc_slots.specs.declared.protect.Protected.{Protected as Done}
+use Rattle.sc_optimal.specs.declared.kind.DesignFault.{DesignFault}
+use Rattle.sc_optimal.specs.declared.kind.DesignFault.TheVariants as design
 use Rattle.streamcode.specs.declared.end.Role.{Role}
 use Rattle.streamcode.specs.declared.end.Role.TheVariants.{Code, Certificate}
 use Rattle.streamcode.specs.declared.end.End.{End}
-use Rattle.streamcode.specs.declared.end.End.TheVariants.{Thinned, Generated, Protected, Bound, Accepted, Refused, CertificateRefused, LossRefused, Usage, Capture, MoreRecords, FewerRecords, FileRefused, FileTooLong, PacketTooWide, PacketTooLong, TooManyRecords, TooManySlots, TooManyClasses, ReadFault, WriteFault, NoMemory}
+use Rattle.streamcode.specs.declared.end.End.TheVariants.{Thinned, Generated, Protected, Bound, Designed, Accepted, Refused, CertificateRefused, LossRefused, Usage, Capture, MoreRecords, FewerRecords, FileRefused, FileTooLong, PacketTooWide, PacketTooLong, TooManyRecords, TooManySlots, TooManySymbols, NoCode, TooManyClasses, ReadFault, WriteFault, NoMemory}
 
 -- the status with which the program ends
 abbrev pub status_of : End → ℕ
@@ -25,6 +27,7 @@ status_of (Thinned dropped) = 0
 status_of (Generated records) = 0
 status_of (Protected done) = 0
 status_of (Bound kept period) = 0
+status_of (Designed candidate k n) = 0
 status_of Accepted = 0
 status_of Refused = 1
 status_of (CertificateRefused residue) = 1
@@ -39,6 +42,8 @@ status_of (PacketTooWide bytes) = 4
 status_of (PacketTooLong index len) = 4
 status_of TooManyRecords = 4
 status_of TooManySlots = 4
+status_of (TooManySymbols symbols) = 4
+status_of NoCode = 10
 status_of (TooManyClasses count) = 11
 status_of ReadFault = 7
 status_of WriteFault = 8
@@ -85,6 +90,7 @@ text_of (Protected done) =
 text_of Accepted = codes "accepted"
 text_of Refused = codes "refused"
 text_of (Bound kept period) = codes "bound " ++ decimal kept ++ codes "/" ++ decimal period
+text_of (Designed candidate k n) = codes "candidate " ++ decimal candidate ++ codes " rate " ++ decimal k ++ codes "/" ++ decimal n
 text_of (CertificateRefused residue) = codes "certificate refused at residue " ++ decimal residue
 text_of (LossRefused window) = codes "loss refused at window " ++ decimal window
 text_of Usage = codes "usage"
@@ -97,6 +103,8 @@ text_of (PacketTooWide bytes) = codes "limit packet " ++ decimal bytes
 text_of (PacketTooLong index len) = codes "limit size " ++ decimal index ++ codes " " ++ decimal len
 text_of TooManyRecords = codes "limit records 8000001"
 text_of TooManySlots = codes "limit slots 4000001"
+text_of (TooManySymbols symbols) = codes "limit symbols " ++ decimal symbols
+text_of NoCode = codes "no code"
 text_of (TooManyClasses count) = codes "classes " ++ decimal count
 text_of ReadFault = codes "read fault"
 text_of WriteFault = codes "write fault"
@@ -133,6 +141,14 @@ end_of_file role NotJson = FileRefused role NotJson
 end_of_file role (Shape key) = FileRefused role (Shape key)
 end_of_file role (Range key) = FileRefused role (Range key)
 end_of_file role NoRoom = NoMemory
+
+-- the end at a fault of a design
+abbrev pub end_of_design : DesignFault → End
+end_of_design design.NotBurst = NoCode
+end_of_design (design.TooWide symbols) = TooManySymbols symbols
+end_of_design (design.TooManyClasses count) = TooManyClasses count
+end_of_design design.NoCode = NoCode
+end_of_design design.Memory = NoMemory
 
 -- the end of protecting a capture
 abbrev pub end_of_protect : Result Done ProtectFault → End

@@ -1,5 +1,5 @@
 -- The jobs of the program's commands, over the input and the output.
-use Rattle.std.specs.Prelude.{◌≡◌, ℕ, Bool, true, false, Option, Some, None, List, [], ◌∷◌, ◌++◌, length, nat_lt}
+use Rattle.std.specs.Prelude.{◌≡◌, ℕ, Bool, true, false, Option, Some, None, List, [], ◌∷◌, ◌++◌, ◌+◌, length, nat_lt, Result, Ok, Err}
 use Rattle.sc_outside.specs.Ends.{Job, only, at_once, told_as}
 use Rattle.sc_channel.specs.Certificate.{CertificateNumbers}
 use Rattle.sc_channel.specs.Channel.{ChannelNumbers}
@@ -10,13 +10,21 @@ use Rattle.sc_rtpdump.specs.Thin.{thinning}
 use Rattle.sc_code.specs.declared.code.CodeFile.{CodeFile}
 use Rattle.sc_slots.specs.Protected.{protecting}
 use Rattle.sc_codefile.specs.CertificateFile.{certificate_text}
+use Rattle.sc_codefile.specs.CodeText.{code_text}
+use Rattle.sc_optimal.specs.declared.design.Found.{Found}
+use Rattle.sc_optimal.specs.declared.kind.DesignFault.{DesignFault}
+use Rattle.sc_optimal.specs.declared.kind.MakerKind.{MakerKind}
+use Rattle.sc_optimal.specs.declared.kind.MakerKind.TheVariants as maker
+use Rattle.sc_optimal.specs.Design.{design_of}
+use Rattle.sc_words.specs.declared.words.Kind.{Kind}
+use Rattle.sc_words.specs.declared.words.Kind.TheVariants.{Ms, Layered, Optimal}
 use Rattle.sc_rate.specs.Rate.{kept_count}
 use Rattle.sc_rate.specs.Residue.{bad_residue}
 use Rattle.sc_rate.specs.Standard.{standard_certificate}
 use Rattle.sc_trial.specs.Generated.{generated}
 use Rattle.streamcode.specs.declared.end.End.{End}
-use Rattle.streamcode.specs.declared.end.End.TheVariants.{Generated, Bound, Accepted, CertificateRefused, LossRefused, TooManyClasses, ReadFault, WriteFault, NoMemory}
-use Rattle.streamcode.specs.End.{end_of_drop, end_of_protect}
+use Rattle.streamcode.specs.declared.end.End.TheVariants.{Generated, Bound, Designed, Accepted, CertificateRefused, LossRefused, TooManyClasses, ReadFault, WriteFault, NoMemory}
+use Rattle.streamcode.specs.End.{end_of_drop, end_of_protect, end_of_design}
 use Rattle.streamcode.specs.Verdict.{verdict_end, verdict_text}
 use Rattle.streamcode.specs.Bound.{bound_line}
 
@@ -69,6 +77,24 @@ certify_by None file certificate = giving Accepted (bound_line file.code certifi
 
 abbrev pub certify_job : CodeFile → CertificateNumbers → Job End
 certify_job file certificate = certify_by (bad_residue file.channel certificate) file certificate
+
+-- the maker that a kind of codes stands for
+abbrev pub maker_of : Kind → MakerKind
+maker_of Ms = maker.Ms
+maker_of Layered = maker.Layered
+maker_of Optimal = maker.Optimal
+
+-- the code file of a code that was found for a channel, as it is given: with a newline (10)
+abbrev pub design_text : ChannelNumbers → Found → List ℕ
+design_text channel found = code_text (record { channel = channel; code = found.code }) ++ 10 ∷ []
+
+-- The code file of the first candidate of a kind that meets a channel is given; or it is told why there is none.
+abbrev pub design_by : ChannelNumbers → Result Found DesignFault → Job End
+design_by channel (Ok found) = giving (Designed found.candidate found.code.k (found.code.k + found.code.r)) (design_text channel found)
+design_by channel (Err fault) = refusal true (end_of_design fault)
+
+abbrev pub design_job : Kind → ChannelNumbers → Job End
+design_job kind channel = design_by channel (design_of (maker_of kind) channel)
 
 -- a job that neither reads nor gives
 pub record IsSilent (job : Job End) : Type 0 where

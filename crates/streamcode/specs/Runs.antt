@@ -9,10 +9,10 @@ use Rattle.sc_outside.specs.Sink.{SinkTold}
 use Rattle.streamcode.specs.declared.end.End.{End}
 use Rattle.streamcode.specs.declared.end.End.TheVariants.{Usage}
 use Rattle.streamcode.specs.End.{status_of, note_of, IsTold}
-use Rattle.streamcode.specs.Jobs.{refusal, lose_job, gen_job, protect_job, check_job, bound_job, certify_job}
+use Rattle.streamcode.specs.Jobs.{refusal, lose_job, gen_job, protect_job, check_job, bound_job, certify_job, design_job}
 use Rattle.streamcode.specs.Plans.{Plan, owes, PlanEnds}
 use Rattle.streamcode.specs.Files.{code_plan, certificate_plan}
-use Rattle.sc_words.specs.Words.{Command, lose_word, generate, protect, check, bound, certify, command_of}
+use Rattle.sc_words.specs.Words.{Command, lose_word, generate, protect, check, bound, certify, design, command_of}
 
 -- what is owed by a command
 abbrev pub command_plan : Option Command → Plan
@@ -23,6 +23,7 @@ command_plan (Some (protect code size)) = code_plan code (λ file. owes (protect
 command_plan (Some (check code workers)) = code_plan code (λ file. owes (check_job file))
 command_plan (Some (bound channel)) = owes (bound_job channel)
 command_plan (Some (certify code cert)) = code_plan code (λ file. certificate_plan cert (λ certificate. owes (certify_job file certificate)))
+command_plan (Some (design kind channel)) = owes (design_job kind channel)
 
 -- the files that a command names, in the order of its words
 abbrev pub files_of : Option Command → List (List ℕ)
@@ -33,6 +34,7 @@ files_of (Some (protect code size)) = code ∷ []
 files_of (Some (check code workers)) = code ∷ []
 files_of (Some (bound channel)) = []
 files_of (Some (certify code cert)) = code ∷ cert ∷ []
+files_of (Some (design kind channel)) = []
 
 -- what is owed by these words
 abbrev pub plan_of : List (List ℕ) → Plan

@@ -1,8 +1,9 @@
 //! How a run ends: its status, its note, and the ends of the layers' faults.
 ghost use Rattle.std.specs.Prelude.{◌≡◌};
-ghost use Rattle.streamcode.specs.End.{status_of, end_of_dump, end_of_drop, end_of_file, end_of_protect};
+ghost use Rattle.streamcode.specs.End.{status_of, end_of_dump, end_of_drop, end_of_file, end_of_protect, end_of_design};
 
 use sc_codefile::FileFault;
+use sc_optimal::DesignFault;
 use sc_rtpdump::{DropFault, Dropped, DumpFault};
 use sc_slots::{ProtectFault, Protected};
 
@@ -26,6 +27,9 @@ pub enum End {
     Protected(Protected),
     /// The standard certificate was given, whose bound is this number of kept slots over this period.
     Bound(u32, u32),
+    /// The code file of the candidate of this number was given, whose code has blocks of so many symbols, and so many symbols with
+    /// those of a parity.
+    Designed(u32, u32, u32),
     /// The code meets its channel, or the channel accepts the certificate.
     Accepted,
     /// The code doesn't meet its channel.
@@ -54,6 +58,10 @@ pub enum End {
     TooManyRecords,
     /// The capture has more RTP records than a protected capture has slots for.
     TooManySlots,
+    /// The codes of the kind would have so many symbols in a block and its parity, which are too many.
+    TooManySymbols(u32),
+    /// No code of the kind was found: none of its candidates meets the channel, or it has none for it.
+    NoCode,
     /// The channel has so many classes of losses, which are more than a check takes.
     TooManyClasses(u64),
     /// A read of the input failed, or a file wasn't fetched.
@@ -66,20 +74,21 @@ pub enum End {
 
 impl End {
     /// The status with which the program ends: 0 done, 1 a code, a certificate or a loss was judged and refused, 2 no form of words, 3
-    /// refused by a file or the input, 4 beyond a limit, 7 a read or a fetch failed, 8 a write failed, 9 no memory, 11 too
-    /// many classes.
+    /// refused by a file or the input, 4 beyond a limit, 7 a read or a fetch failed, 8 a write failed, 9 no memory, 10 no code,
+    /// 11 too many classes.
     pub fn status(&self) -> u8
         ensures { result ≡ status_of self.now }
     {
         match self {
             End::Thinned(_) | End::Generated(_) | End::Protected(_) => 0,
-            End::Bound(_, _) | End::Accepted => 0,
+            End::Bound(_, _) | End::Designed(_, _, _) | End::Accepted => 0,
             End::Refused | End::CertificateRefused(_) | End::LossRefused(_) => 1,
             End::Usage => 2,
             End::Capture(_) | End::MoreRecords(_) | End::FewerRecords(_, _) => 3,
             End::FileRefused(_, _) => 3,
             End::FileTooLong(_) | End::PacketTooWide(_) | End::PacketTooLong(_, _) => 4,
-            End::TooManyRecords | End::TooManySlots => 4,
+            End::TooManyRecords | End::TooManySlots | End::TooManySymbols(_) => 4,
+            End::NoCode => 10,
             End::TooManyClasses(_) => 11,
             End::ReadFault => 7,
             End::WriteFault => 8,
@@ -107,6 +116,18 @@ impl End {
         match fault {
             FileFault::Memory => End::NoMemory,
             other => End::FileRefused(role, other),
+        }
+    }
+
+    /// The end at a fault of a design.
+    pub fn of_design(fault: DesignFault) -> End
+        ensures { result ≡ end_of_design fault }
+    {
+        match fault {
+            DesignFault::NotBurst | DesignFault::NoCode => End::NoCode,
+            DesignFault::TooWide(symbols) => End::TooManySymbols(symbols),
+            DesignFault::TooManyClasses(count) => End::TooManyClasses(count),
+            DesignFault::Memory => End::NoMemory,
         }
     }
 

@@ -4,6 +4,7 @@
 mod bound;
 mod check;
 mod check_laws;
+mod design;
 mod end;
 mod files;
 mod generate;

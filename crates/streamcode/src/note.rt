@@ -155,6 +155,12 @@ fn end_note(end: &End) -> Note
             .number((*kept).into())
             .word("/")
             .number((*period).into()),
+        End::Designed(candidate, k, n) => Note::of("candidate ")
+            .number((*candidate).into())
+            .word(" rate ")
+            .number((*k).into())
+            .word("/")
+            .number((*n).into()),
         End::CertificateRefused(residue) => {
             Note::of("certificate refused at residue ").number((*residue).into())
         }
@@ -179,6 +185,8 @@ fn end_note(end: &End) -> Note
             .number((*length).into()),
         End::TooManyRecords => Note::of("limit records 8000001"),
         End::TooManySlots => Note::of("limit slots 4000001"),
+        End::TooManySymbols(symbols) => Note::of("limit symbols ").number((*symbols).into()),
+        End::NoCode => Note::of("no code"),
         End::TooManyClasses(count) => Note::of("classes ").number(*count),
         End::ReadFault => Note::of("read fault"),
         End::WriteFault => Note::of("write fault"),

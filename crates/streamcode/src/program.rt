@@ -9,6 +9,7 @@ ghost use Rattle.sc_words.specs.Words.{command_of, texts};
 
 use crate::bound::{bound, certify};
 use crate::check::check;
+use crate::design::design;
 use crate::end::End;
 use crate::generate::generate;
 use crate::lose::lose;
@@ -39,6 +40,7 @@ fn perform<R: Threads + Sync, C: Cabinet, P: Port, G: Gate + Sync>(
         Command::Protect { code, size } => protect(alloc, code, size, cabinet, port),
         Command::Bound { channel } => bound(alloc, channel, port),
         Command::Certify { code, cert } => certify(alloc, code, cert, cabinet, port),
+        Command::Design { kind, channel } => design(rt, alloc, kind, channel, port, gate),
         Command::Check { code, workers } => check(rt, alloc, code, workers, cabinet, port, gate),
     }
 }

@@ -1,7 +1,7 @@
 use Rattle.std.proofs.Common.{◌≡◌, ℕ, ◌≤◌, ap, sym, ◌∙◌, subst, arith}
 use Rattle.std.proofs.lemmas.Result.{IfOk-weaker}
 use Rattle.std.proofs.lemmas.List.{length-map}
-use Rattle.sc_draw.specs.Draw.{generator}
+use Rattle.sc_layered.specs.Draw.{generator}
 use Rattle.sc_matrix.specs.Matrix.{Matrix, row_count}
 use Rattle.sc_optimal.proofs.SizeSteps.{rows-drawn, few_entries}
 use Rattle.sc_optimal.proofs.parity.low_rank.Goals as goal

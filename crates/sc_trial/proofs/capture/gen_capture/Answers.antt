@@ -9,14 +9,14 @@ returns-in_default-clause-ends g c = Ends-no_memory (generating c.args.seed c.ar
 
 pub returns-in-Err-clause-ends : goal.returns-in-Err-clause-ends
 returns-in-Err-clause-ends g c =
-    records_failed c.args.seed c.args.count c.args.size _ _ _ _ c.generator-words.ensures (c.push.ensures ∙ ap (λ l. l ++ standard_preamble) c.in-Ok.ensures) c.in-Err.ensures.err
+    records_failed c.args.seed c.args.count c.args.size _ _ _ _ c.new-words.ensures (c.push.ensures ∙ ap (λ l. l ++ standard_preamble) c.in-Ok.ensures) c.in-Err.ensures.err
 
 pub returns-in-Ok-flush-clause-ends : goal.returns-in-Ok-flush-clause-ends
 returns-in-Ok-flush-clause-ends g c =
-    all_given c.args.seed c.args.count c.args.size _ _ _ _ _ _ c.generator-words.ensures (c.push.ensures ∙ ap (λ l. l ++ standard_preamble) c.in-Ok.ensures) c.in-Ok-put_records.ensures.ok
+    all_given c.args.seed c.args.count c.args.size _ _ _ _ _ _ c.new-words.ensures (c.push.ensures ∙ ap (λ l. l ++ standard_preamble) c.in-Ok.ensures) c.in-Ok-put_records.ensures.ok
     c.in-Ok-flush.ensures.1
 
 pub returns-clause-ends : goal.returns-clause-ends
 returns-clause-ends g c =
-    last_failed c.args.seed c.args.count c.args.size _ _ _ _ _ _ _ c.generator-words.ensures (c.push.ensures ∙ ap (λ l. l ++ standard_preamble) c.in-Ok.ensures) c.in-Ok-put_records.ensures.ok
+    last_failed c.args.seed c.args.count c.args.size _ _ _ _ _ _ _ c.new-words.ensures (c.push.ensures ∙ ap (λ l. l ++ standard_preamble) c.in-Ok.ensures) c.in-Ok-put_records.ensures.ok
     c.in-Err-flush.ensures

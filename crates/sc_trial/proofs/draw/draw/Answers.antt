@@ -1,9 +1,8 @@
 use Rattle.std.proofs.Common.{◌≡◌, ℕ, ◌%◌, ◌<◌, ◌≢◌, length, sym, ap, ◌∙◌, arith, below_more, get_or-set_other, get_or-set_same, add-zero}
 use Rattle.rand_pcg.specs.Lcg.{Lcg, advance}
 use Rattle.rand_pcg.specs.Pcg.{multiplier_64}
-use Rattle.sc_draw.specs.Draw.{word_at}
-use Rattle.sc_draw.proofs.WordLaws.{advance-none, advance-one, word_at-advance}
-use Rattle.sc_trial.proofs.DrawSteps.{drawn-each}
+use Rattle.sc_trial.specs.Draw.{word_at}
+use Rattle.sc_trial.proofs.DrawSteps.{advance-none, advance-one, word_at-advance, drawn-each}
 use Rattle.sc_trial.proofs.draw.draw.Goals as goal
 
 pub loop-byte-init : goal.loop-byte-init

@@ -1,7 +1,7 @@
 use Rattle.std.proofs.Common.{◌≡◌, ℕ, ◌%◌, ◌<◌, slice_index_or}
 use Rattle.rand_pcg.specs.Lcg.{advance}
 use Rattle.rand_pcg.specs.Pcg.{multiplier_64}
-use Rattle.sc_draw.specs.Draw.{word_at}
+use Rattle.sc_trial.specs.Draw.{word_at}
 use Rattle.sc_trial.proofs.draw.draw.Given as goal
 
 -- the bytes so far are drawn, and so many steps were made

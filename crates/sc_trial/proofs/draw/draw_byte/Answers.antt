@@ -1,7 +1,7 @@
 use Rattle.std.proofs.Common.{ℕ, ◌%◌, ap, ◌∙◌}
 use Rattle.std.proofs.lemmas.Nat.{and_mask}
 use Rattle.rand_pcg.specs.Lcg.{Lcg, state_after}
-use Rattle.sc_draw.specs.Draw.{word_at}
+use Rattle.sc_trial.specs.Draw.{word_at}
 use Rattle.sc_trial.proofs.draw.draw_byte.Goals as goal
 
 pub returns-clause-byte : goal.returns-clause-byte

@@ -1,5 +1,5 @@
 use Rattle.std.proofs.Common.{ℕ, ◌+◌, ◌*◌, ◌<◌, arith}
-use Rattle.sc_draw.proofs.PlaceLaws.{place_below}
+use Rattle.sc_layered.proofs.PlaceLaws.{place_below}
 use Rattle.sc_layered.proofs.layered.Layers.second_at.Goals as goal
 
 pub draw-requires : goal.draw-requires

@@ -2,9 +2,9 @@ use Rattle.std.proofs.Common.{◌≡◌, ℕ, ◌+◌, ◌%◌, List, [], ◌∷
 use Rattle.std.proofs.lemmas.List.FromFn.{map-range_with_len_more}
 use Rattle.rand_pcg.specs.Lcg.{advance}
 use Rattle.rand_pcg.specs.Pcg.{multiplier_64}
-use Rattle.sc_draw.specs.Draw.{generator, word_at, nonzero_at}
-use Rattle.sc_draw.proofs.WordLaws.{advance-none, advance-one, word_at-advance}
-use Rattle.sc_draw.proofs.draw.nonzero_draws.Goals as goal
+use Rattle.sc_layered.specs.Draw.{generator, word_at, nonzero_at}
+use Rattle.sc_layered.proofs.WordLaws.{advance-none, advance-one, word_at-advance}
+use Rattle.sc_layered.proofs.draw.nonzero_draws.Goals as goal
 
 pub loop-place-init : goal.loop-place-init
 loop-place-init c = record { draws = c.in_ok-draws.ensures.items; steps = c.generator-words.ensures ∙ sym (advance-none (generator c.args.seed)) }

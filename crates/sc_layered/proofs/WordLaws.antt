@@ -3,7 +3,7 @@ use Rattle.std.proofs.Common.{◌≡◌, ℕ, zero, suc, ◌+◌, ◌<◌, List,
 use Rattle.std.proofs.lemmas.List.FromFn.{length-map-range_with_len, get_or-map-range_with_len}
 use Rattle.rand_pcg.specs.Lcg.{Lcg, next_state, advance, state_after}
 use Rattle.rand_pcg.specs.Pcg.{multiplier_64, pcg32}
-use Rattle.sc_draw.specs.Draw.{word_at, nonzero_at, nonzero_draws}
+use Rattle.sc_layered.specs.Draw.{word_at, nonzero_at, nonzero_draws}
 
 state_after-state_after : (w m p k j s : ℕ) → state_after w m p j (state_after w m p k s) ≡ state_after w m p (k + j) s
 unfolding state_after

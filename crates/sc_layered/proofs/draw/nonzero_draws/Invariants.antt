@@ -1,8 +1,8 @@
 use Rattle.std.proofs.Common.{◌≡◌}
 use Rattle.rand_pcg.specs.Lcg.{advance}
 use Rattle.rand_pcg.specs.Pcg.{multiplier_64}
-use Rattle.sc_draw.specs.Draw.{generator, nonzero_draws}
-use Rattle.sc_draw.proofs.draw.nonzero_draws.Given as goal
+use Rattle.sc_layered.specs.Draw.{generator, nonzero_draws}
+use Rattle.sc_layered.proofs.draw.nonzero_draws.Given as goal
 
 -- the draws so far, and so many steps were made
 abbrev pub invariant-loop-place : goal.invariant-loop-place

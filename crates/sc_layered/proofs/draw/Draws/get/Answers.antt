@@ -1,7 +1,7 @@
 use Rattle.std.proofs.Common.{◌<◌, length, sym, ap, ◌∙◌, subst}
-use Rattle.sc_draw.specs.Draw.{DrawsOf, generator, nonzero_at}
-use Rattle.sc_draw.proofs.WordLaws.{draw-at}
-use Rattle.sc_draw.proofs.draw.Draws.get.Goals as goal
+use Rattle.sc_layered.specs.Draw.{DrawsOf, generator, nonzero_at}
+use Rattle.sc_layered.proofs.WordLaws.{draw-at}
+use Rattle.sc_layered.proofs.draw.Draws.get.Goals as goal
 
 pub returns : goal.returns
 returns c =

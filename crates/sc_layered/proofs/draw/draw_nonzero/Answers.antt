@@ -1,7 +1,7 @@
 use Rattle.std.proofs.Common.{ℕ, ◌+◌, ◌%◌, ap}
 use Rattle.rand_pcg.specs.Lcg.{Lcg, state_after}
-use Rattle.sc_draw.specs.Draw.{word_at}
-use Rattle.sc_draw.proofs.draw.draw_nonzero.Goals as goal
+use Rattle.sc_layered.specs.Draw.{word_at}
+use Rattle.sc_layered.proofs.draw.draw_nonzero.Goals as goal
 
 pub returns-clause-byte : goal.returns-clause-byte
 unfolding word_at state_after

@@ -2,7 +2,7 @@
 ghost use Rattle.std.specs.Prelude.{◌≡◌, ◌<◌, IfOk};
 ghost use Rattle.rand_pcg.specs.Lcg.{advance};
 ghost use Rattle.rand_pcg.specs.Pcg.{multiplier_64};
-ghost use Rattle.sc_draw.specs.Draw.{generator, word_at, nonzero_at, nonzero_draws};
+ghost use Rattle.sc_layered.specs.Draw.{generator, word_at, nonzero_at, nonzero_draws};
 
 use rand_core::utils::NextWord;
 use rand_pcg::Pcg32;
@@ -37,7 +37,7 @@ pub struct Draws {
 
 impl Model for Draws {
     ghost use Rattle.std.specs.Prelude.{◌≡◌, length};
-    ghost use Rattle.sc_draw.specs.Draw.{DrawsOf, generator, nonzero_draws};
+    ghost use Rattle.sc_layered.specs.Draw.{DrawsOf, generator, nonzero_draws};
 
     ghost Value = { DrawsOf };
 

@@ -1,7 +1,7 @@
 use Rattle.std.proofs.Common.{ℕ, sym, ap, ◌∙◌}
-use Rattle.sc_draw.specs.Draw.{DrawsOf, generator, nonzero_draws}
-use Rattle.sc_draw.proofs.WordLaws.{draws-whole}
-use Rattle.sc_draw.proofs.draw.Draws.new.Goals as goal
+use Rattle.sc_layered.specs.Draw.{DrawsOf, generator, nonzero_draws}
+use Rattle.sc_layered.proofs.WordLaws.{draws-whole}
+use Rattle.sc_layered.proofs.draw.Draws.new.Goals as goal
 
 pub invariant_of-result : goal.invariant_of-result
 invariant_of-result c =
