@@ -435,7 +435,10 @@ fn losses(rt: HostRuntime) -> Result<(), Fail> {
         ("{\"loss\":\"0\"", Err(FileFault::NotJson)),
         ("\"0110\"", Err(FileFault::Shape(Key::Whole))),
         ("[]", Err(FileFault::Shape(Key::Whole))),
-        ("{\"loss\":\"0\",\"lost\":[0]}", Err(FileFault::Shape(Key::Other))),
+        (
+            "{\"loss\":\"0\",\"lost\":[0]}",
+            Err(FileFault::Shape(Key::Other)),
+        ),
         ("{\"Loss\":\"0\"}", Err(FileFault::Shape(Key::Other))),
         ("{}", Err(FileFault::Shape(Key::Loss))),
         ("{\"loss\":[0,1]}", Err(FileFault::Shape(Key::Loss))),
@@ -448,7 +451,10 @@ fn losses(rt: HostRuntime) -> Result<(), Fail> {
             (Ok(flags), Ok(word)) => {
                 assert_eq!(rt; flags.len(), word.len());
                 for (place, byte) in word.as_bytes().iter().enumerate() {
-                    assert!(rt; flags.as_slice().get(place) == Some(&(*byte == b'1')), "{text}");
+                    assert!(rt;
+                        flags.as_slice().get(place) == Some(&(*byte == b'1')),
+                        "{text}"
+                    );
                 }
             }
             (Err(fault), Err(want)) => assert_eq!(rt; fault, want),
