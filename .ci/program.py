@@ -3,8 +3,11 @@
 
 What is wanted is worked out from the format alone, by a few lines of another language.
 """
+import functools
+import itertools
 import json
 import os
+import random
 import struct
 import subprocess
 import sys
@@ -119,6 +122,50 @@ def protected(data, code, size):
     return b"".join(out), b"slots %d rtcp %d cut %d strange %d\n" % (len(blocks), counts["rtcp"], counts["cut"], counts["strange"])
 
 
+def decided(code, loss):
+    """Whether the kept slots of a loss leave block 0 of a stream over GF(256) no choice: elimination of the lost symbols, block 0 last."""
+    k, r, lags = code["k"], code["r"], code["lags"]
+    columns = [(t, i) for t, lost in reversed(list(enumerate(loss))) if lost for i in range(k)]
+    rows = [
+        [lags[u - t][i][j] if t <= u and u - t < len(lags) else 0 for t, i in columns]
+        for u, lost in enumerate(loss)
+        if not lost
+        for j in range(r)
+    ]
+    inverse = {x: next(y for y in range(256) if times(x, y) == 1) for x in set(sum(rows, [])) - {0}}
+    rank = 0
+    for column in range(len(columns)):
+        pivot = next((row for row in rows[rank:] if row[column]), None)
+        if pivot is None:
+            if columns[column][0] == 0:
+                return False
+            continue
+        rows.remove(pivot)
+        factor = inverse.get(pivot[column]) or next(y for y in range(256) if times(pivot[column], y) == 1)
+        pivot = [times(factor, x) for x in pivot]
+        rows = [[x ^ times(row[column], y) for x, y in zip(row, pivot)] for row in rows]
+        rows.insert(rank, pivot)
+        rank += 1
+    return True
+
+
+def classes(channel):
+    """The burst, and slot 0 with each choice of N - 1 later slots, in lexicographic order."""
+    _, b, n, t = channel
+    yield [i < b for i in range(t + 1)]
+    for places in itertools.combinations(range(1, t + 1), n - 1):
+        yield [i == 0 or i in places for i in range(t + 1)]
+
+
+def checked(code):
+    """The lines of a code that meets its channel, or the first class that isn't decided."""
+    every = list(classes(code["channel"]))
+    for index, loss in enumerate(every):
+        if not decided(code, loss):
+            return index, loss
+    return "meets %d %d %d %d " % tuple(code["channel"]) + "rate %d/%d classes %d\n" % (code["k"], code["k"] + code["r"], len(every))
+
+
 def expect(what, got, wanted):
     global failed
     if got != wanted:
@@ -209,13 +256,50 @@ with tempfile.TemporaryDirectory() as folder:
     for line in ["protect x", "protect x 11", "protect x 1473", "protect x 012", "protect x 12 12"]:
         answers(line, line.split(), held(capture), 2, b"", b"usage\n")
 
+    # Codes, judged again by elimination. Of one that fails the class is compared, and that its stream refutes it.
+    drawn = random.Random(5)
+    tried = [json.load(open(burst)), json.load(open(repeats))]
+    for w, b, n, t, k, r in [(4, 3, 2, 3, 2, 2), (4, 3, 2, 3, 2, 3), (6, 3, 3, 4, 2, 3), (5, 2, 2, 4, 3, 3), (9, 4, 2, 6, 3, 3), (9, 2, 2, 6, 4, 2)] * 3:
+        rows = lambda: [[drawn.choice([0, 1, drawn.randrange(256)]) for _ in range(r)] for _ in range(k)]
+        tried.append({"channel": [w, b, n, t], "k": k, "lags": [rows() for _ in range(drawn.randrange(1, t + 2))], "r": r})
+    met = 0
+    for number, code in enumerate(tried):
+        name, wanted = named("code.json", json.dumps(code)), checked(code)
+        if isinstance(wanted, str):
+            met += 1
+            answers(f"check of code {number}", ["check", name, "3"], held(capture), 0, wanted.encode(), b"accepted\n")
+            continue
+        done = run(["check", name, "2"], held(capture))
+        expect(f"check of code {number}: status", (done.returncode, done.stderr), (1, b"refused\n"))
+        lines = done.stdout.decode().split("\n")
+        flags = "".join("01"[lost] for lost in wanted[1])
+        expect(f"check of code {number}: class", lines[:2], [f"fails class {wanted[0]}", f"loss {flags}"])
+        stream = [[int(x) for x in block.split(",")] for block in lines[2].split()[1:]]
+        parity = lambda u, j: functools.reduce(
+            lambda a, x: a ^ x,
+            [times(code["lags"][lag][i][j], stream[u - lag][i]) for lag in range(min(u + 1, len(code["lags"]))) for i in range(code["k"])],
+        )
+        zero = [not any(stream[u]) and not any(parity(u, j) for j in range(code["r"])) for u, lost in enumerate(wanted[1]) if not lost]
+        expect(f"check of code {number}: the stream refutes", (len(stream), any(stream[0]), all(zero)), (code["channel"][3] + 1, True, True))
+        expect(f"check of code {number}: the other", lines[3:], ["other " + " ".join(",".join("0" * code["k"]) for _ in stream), ""])
+    expect("codes that meet their channel, and codes that don't", 2 <= met <= len(tried) - 5, True)
+    answers("many classes", ["check", named("many.json", json.dumps({"channel": [41, 7, 7, 40], "k": 1, "lags": [[[1]]], "r": 1})), "1"], held(capture), 11, b"", b"classes 3838381\n")
+
+    # Certificates.
+    standard = named("standard.json", '{"lost":[0,1],"period":4}\n')
+    answers("bound", ["bound", "3", "2", "1", "2"], held(capture), 0, b'{"lost":[0,1],"period":4}\n', b"bound 2/4\n")
+    answers("certify", ["certify", repeats, standard], held(capture), 0, b"bound 2/4 code 1/2 equal\n", b"accepted\n")
+    short = named("short.json", '{"lost":[0,1],"period":3}')
+    answers("a refused certificate", ["certify", repeats, short], held(capture), 1, b"", b"certificate refused at residue 1\n")
+    answers("no certificate", ["certify", repeats, repeats], held(capture), 3, b"", b"certificate shape other\n")
+
     # A folder can't be read, and nothing can be written to a device that is full.
     directory = os.open(folder, os.O_RDONLY)
     answers("a failed read", lose + ["0"], directory, 7, b"", b"read fault\n")
     os.close(directory)
     if os.path.exists("/dev/full"):
         with open("/dev/full", "wb") as full:
-            for words in [lose + [loss], ["gen", "7", "3", "20"], ["protect", burst, "200"]]:
+            for words in [lose + [loss], ["gen", "7", "3", "20"], ["protect", burst, "200"], ["check", repeats, "1"], ["bound", "3", "2", "1", "2"]]:
                 done = run(words, held(capture), stdout=full)
                 expect(f"{words[0]}, a failed write: status", done.returncode, 8)
                 expect(f"{words[0]}, a failed write: note", done.stderr, b"write fault\n")

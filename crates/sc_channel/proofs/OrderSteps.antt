@@ -4,7 +4,7 @@ use Rattle.std.proofs.lemmas.List.{append_assoc, append-nil, length-append, leng
 use Rattle.std.proofs.lemmas.Bool.{cases_lt, lt-ltb, le-ltb}
 use borrow.Rule.Slice.PartMut.{put_mid}
 use Rattle.sc_channel.specs.Channel.{ChannelNumbers}
-use Rattle.sc_channel.specs.Classes.{choose, flags_with, classes_of, class_count}
+use Rattle.sc_channel.specs.Classes.{choose, flags_with, classes_of, class_count, SetsFirst}
 use Rattle.sc_channel.proofs.ChooseSteps.{ways_with_first, ways_with_first-is, choose-within}
 
 pub length-flags_with : (places n : ℕ) → length (flags_with places n) ≡ choose places n
@@ -168,3 +168,55 @@ class-written channel n (suc index) places (flag ∷ flags) new long some in_ran
     ap (λ (xs : List Bool). true ∷ (new ++ xs)) rest
     ∙ ap (λ (xs : List Bool). true ∷ xs) (append-nil new ∙ listed)
     ∙ sym (get_or-map (λ flags. true ∷ flags) others index [] [] within)
+
+-- ---- the lists are in lexicographic order
+
+before-cons : (flag : Bool) (a b : List Bool) → SetsFirst a b → SetsFirst (flag ∷ a) (flag ∷ b)
+before-cons flag a b h =
+    record {
+      place = suc h.place;
+      same = same_cons h.same;
+      set_in_a = h.set_in_a;
+      clear_in_b = h.clear_in_b;
+    }
+  where
+    same_cons : {place : ℕ} → ((i : ℕ) → i < place → get_or a i false ≡ get_or b i false) → (i : ℕ) → i < suc place → get_or (flag ∷ a) i false ≡ get_or (flag ∷ b) i false
+    same_cons same none lt = refl
+    same_cons same (suc i) lt = same i (omega arith)
+
+before_at_once : (a b : List Bool) → SetsFirst (true ∷ a) (false ∷ b)
+before_at_once a b = record { place = 0; same = λ i lt. absurd (omega arith); set_in_a = refl; clear_in_b = refl }
+
+before_of : (a b c d : List Bool) → a ≡ c → b ≡ d → SetsFirst c d → SetsFirst a b
+before_of a b c d e f h = rw (e, f) h
+
+pub flags_at-before : (places n i j : ℕ) → i < j → j < choose places n → SetsFirst (flags_at places n i) (flags_at places n j)
+flags_at-before none none i j lt within = absurd (omega arith)
+flags_at-before none (suc n) i j lt within = absurd (omega arith)
+flags_at-before (suc places) n i j lt within =
+    let first = ways_with_first places n in
+    elim (cases_lt j first) [
+      | inl below ↦
+          let low : i < first = omega arith in
+          before_of _ _ _ _ (flags_at-set places n i low) (flags_at-set places n j below)
+          (before-cons true _ _ (flags_at-before places (n - 1) i j lt (omega (arith, ways_set places n j below))))
+      | inr past ↦ elim (cases_lt i first) [
+        | inl low ↦ before_of _ _ _ _ (flags_at-set places n i low) (flags_at-clear places n j past within) (before_at_once _ _)
+        | inr high ↦
+            let split = ways_clear places n in
+            before_of _ _ _ _ (flags_at-clear places n i high (omega arith)) (flags_at-clear places n j past within)
+            (before-cons false _ _ (flags_at-before places n (i - first) (j - first) (omega arith) (omega arith)))
+      ]
+    ]
+
+-- the class of an index after the first
+class_at-spread : (channel : ChannelNumbers) (index : ℕ) → index < choose channel.t (channel.n - 1) → get_or (classes_of channel) (suc index) [] ≡ true ∷ flags_at channel.t (channel.n - 1) index
+class_at-spread channel index lt =
+    get_or-map (λ flags. true ∷ flags) (flags_with channel.t (channel.n - 1)) index [] [] (omega (arith, length-flags_with channel.t (channel.n - 1)))
+
+pub classes-before : (channel : ChannelNumbers) (i j : ℕ) → 0 < i → i < j → j < class_count channel → SetsFirst (get_or (classes_of channel) i []) (get_or (classes_of channel) j [])
+classes-before channel none j some lt within = absurd (omega arith)
+classes-before channel (suc i) none some lt within = absurd (omega arith)
+classes-before channel (suc i) (suc j) some lt within =
+    before_of _ _ _ _ (class_at-spread channel i (omega arith)) (class_at-spread channel j (omega arith))
+    (before-cons true _ _ (flags_at-before channel.t (channel.n - 1) i j (omega arith) (omega arith)))

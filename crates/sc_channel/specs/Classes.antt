@@ -1,5 +1,5 @@
 -- The classes of losses that a check looks at, for a channel whose window is longer than its deadline, and their order.
-use Rattle.std.specs.Prelude.{◌≡◌, ℕ, zero as none, suc, ◌+◌, ◌-◌, Bool, true, false, List, [], ◌∷◌, ◌++◌, length, map, replicate}
+use Rattle.std.specs.Prelude.{◌≡◌, ℕ, zero as none, suc, ◌+◌, ◌-◌, ◌<◌, Bool, true, false, List, [], ◌∷◌, ◌++◌, length, map, replicate, slice_index_or}
 use Rattle.sc_channel.specs.Channel.{ChannelNumbers}
 use Rattle.sc_channel.specs.Flags.{IsSet, set_count}
 
@@ -33,3 +33,11 @@ classes_of channel = burst_class channel ∷ map (λ flags. true ∷ flags) (fla
 -- how many these are
 abbrev pub class_count : ChannelNumbers → ℕ
 class_count channel = choose channel.t (channel.n - 1) + 1
+
+-- Of two lists of flags with equally many set, a is before b in lexicographic order of the sorted set places: at the first
+-- place where they differ, a is set.
+pub record SetsFirst (a b : List Bool) : Type 0 where
+  pub place : ℕ
+  pub same : (i : ℕ) → i < place → slice_index_or a i false ≡ slice_index_or b i false
+  pub set_in_a : IsSet a place
+  pub clear_in_b : slice_index_or b place true ≡ false

@@ -5,7 +5,7 @@ ghost use Rattle.std.specs.List.{Contains};
 ghost use Rattle.sc_channel.specs.Channel.{ChannelNumbers, IsChannel, IsOrdered};
 ghost use Rattle.sc_channel.specs.Flags.{IsSet};
 ghost use Rattle.sc_channel.specs.Loss.{IsAdmissible};
-ghost use Rattle.sc_channel.specs.Classes.{choose, flags_with, burst_class, IsClass, classes_of, class_count};
+ghost use Rattle.sc_channel.specs.Classes.{choose, flags_with, burst_class, IsClass, classes_of, class_count, SetsFirst};
 
 use crate::channel::Channel;
 use crate::flags::Flags;
@@ -178,12 +178,14 @@ fn write_flags(flags: &mut [bool], n: u32, count: u32, index: u32)
     }
 }
 
-/// The classes of a channel in order are exactly its classes, and so many. Each is admissible, and each admissible loss of
-/// `t + 1` flags with flag 0 set is part of one.
+/// The classes of a channel in order are exactly its classes, and so many; those after the burst are in lexicographic order of
+/// their sorted places. Each is an admissible loss of `t + 1` flags, and each such loss with flag 0 set is part of one.
 pub fn classes_are_all_classes()
     ensures classes { (channel : ChannelNumbers) (class : List Bool) → IsOrdered channel.w channel.b channel.n channel.t
         → Contains (classes_of channel) class ↔ IsClass channel class }
     ensures count { (channel : ChannelNumbers) → length (classes_of channel) ≡ class_count channel }
+    ensures order { (channel : ChannelNumbers) (i j : ℕ) → 0 < i → i < j → j < class_count channel
+        → SetsFirst (slice_index_or (classes_of channel) i []) (slice_index_or (classes_of channel) j []) }
     ensures lengths { (channel : ChannelNumbers) (class : List Bool) → IsOrdered channel.w channel.b channel.n channel.t → IsClass channel class
         → length class ≡ channel.t + 1 }
     ensures first_lost { (channel : ChannelNumbers) (class : List Bool) → IsOrdered channel.w channel.b channel.n channel.t → IsClass channel class

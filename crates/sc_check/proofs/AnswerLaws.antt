@@ -1,5 +1,5 @@
 -- The first stream that shows that a class isn't decided.
-use Rattle.std.proofs.Common.{◌≡◌, ◌≢◌, ◌⊎◌, ◌↔◌, inl, inr, ℕ, zero as naught, suc, ◌+◌, ◌*◌, ◌<◌, ◌≤◌, ◌&&◌, ◌||◌, ◌==◌, Bool, true, false, cond, Option, Some, None, List, [], ◌∷◌, length, get_or, replicate, bit_xor, map, take, drop, ◌++◌, ap₂, refl, sym, ap, ◌∙◌, subst, arith}
+use Rattle.std.proofs.Common.{◌≡◌, ◌≢◌, ◌⊎◌, ◌↔◌, inl, inr, ℕ, zero as naught, suc, ◌+◌, ◌*◌, ◌<◌, ◌||◌, ◌==◌, Bool, true, false, Option, Some, None, List, [], ◌∷◌, length, get_or, replicate, bit_xor, map, take, drop, ◌++◌, ap₂, refl, sym, ap, ◌∙◌, subst, arith}
 use Rattle.std.specs.Prelude.{All, not}
 use Rattle.std.specs.List.{list_all, range_with_len}
 use Rattle.std.specs.Option.{option_map}
@@ -17,7 +17,7 @@ use Rattle.sc_matrix.specs.Vector.{IsVector}
 use Rattle.sc_echelon.specs.Kernel.{IsBefore}
 use Rattle.sc_field.specs.Gf256.{gf256_product}
 use Rattle.sc_matrix.specs.Layout.{cut}
-use Rattle.sc_matrix.proofs.LayoutLaws.{length-cut, get_or-cut, vectors-cut}
+use Rattle.sc_matrix.proofs.LayoutLaws.{length-cut, vectors-cut}
 use Rattle.sc_channel.specs.Channel.{ChannelNumbers, IsChannel, IsOrdered}
 use Rattle.sc_channel.specs.Classes.{classes_of, class_count, IsClass}
 use Rattle.sc_channel.proofs.ClassLaws.{All-classes, IsClass-at, length-classes_of, IsSet-class}
@@ -133,8 +133,8 @@ zero_eq x is = rw is refl
 zero_test : (k : ℕ) (block : List ℕ) → length block ≡ k → (is_zero block ≡ true) ↔ (block ≡ replicate k 0)
 zero_test k block width = (
   λ is. ext_get_or 0 block (replicate k 0) (width ∙ sym (length-replicate k 0)) (λ i lt.
-  let at = AllPass-from_list_all (λ symbol. symbol == 0) block is i 0 lt in
-  eq_zero (get_or block i 0) at ∙ sym (get_or-replicate k i 0 0 (omega (arith, width)))),
+      let at = AllPass-from_list_all (λ symbol. symbol == 0) block is i 0 lt in
+      eq_zero (get_or block i 0) at ∙ sym (get_or-replicate k i 0 0 (omega (arith, width)))),
   λ same. list_all-from_AllPass (λ symbol. symbol == 0) block (subst (λ b. All (λ x. (x == 0) ≡ true) b) (sym same) (All-replicate (λ x. (x == 0) ≡ true) k 0 refl)),
 )
 
@@ -142,16 +142,15 @@ range_test : (p : ℕ → Bool) (n : ℕ) → (list_all p (range_with_len 0 n) �
 range_test p n = (
   λ is i lt. all_below p n is i lt,
   λ each. list_all-from_AllPass p (range_with_len 0 n) (λ i d lt.
-  let small : i < n = omega (arith, lt, length-range_with_len 0 n) in
-  let e : get_or (range_with_len 0 n) i d ≡ i = get_or-range_with_len 0 n i d small ∙ (omega arith) in
-  subst (λ v. p v ≡ true) (sym e) (each i small)),
+      let small : i < n = omega (arith, lt, length-range_with_len 0 n) in
+      let e : get_or (range_with_len 0 n) i d ≡ i = get_or-range_with_len 0 n i d small ∙ (omega arith) in
+      subst (λ v. p v ≡ true) (sym e) (each i small)),
 )
 
 slot_test : (code : Code ℕ) (xs : List (List ℕ)) (t : ℕ) → length (get_or xs t []) ≡ code.k → (is_zero_slot code xs t ≡ true) ↔ IsZeroElements 0 bit_xor gf256_product code xs t
 slot_test code xs t width =
     let block = zero_test code.k (get_or xs t []) width in
-    let parities = range_test (λ j. parity_symbol 0 0 bit_xor gf256_product code (element_at 0 xs) t j == 0) code.r in
-    (
+    let parities = range_test (λ j. parity_symbol 0 0 bit_xor gf256_product code (element_at 0 xs) t j == 0) code.r in (
       λ is. let parts = and_parts _ _ is in record {
         symbols = block.0 parts.0;
         parities = λ j lt. eq_zero _ (parities.0 parts.1 j lt);
@@ -187,8 +186,7 @@ difference_test : (code : Code ℕ) (class : List Bool) (xs : List (List ℕ)) �
 difference_test code class xs blocks count some =
     let width : (t : ℕ) → t < length class → length (get_or xs t []) ≡ code.k = λ t lt. (blocks t [] (omega (arith, lt, count))).width in
     let first = zero_test code.k (get_or xs 0 []) (width 0 some) in
-    let slots = range_test (λ t. get_or class t true || is_zero_slot code xs t) (length class) in
-    (
+    let slots = range_test (λ t. get_or class t true || is_zero_slot code xs t) (length class) in (
       λ is. let parts = and_parts (not (is_zero (get_or xs 0 []))) (list_all (λ t. get_or class t true || is_zero_slot code xs t) (range_with_len 0 (length class))) is in record {
         blocks = blocks;
         count = count;
@@ -196,7 +194,7 @@ difference_test code class xs blocks count some =
         block_differs = λ zero. let yes = first.1 zero in let no = not_true (is_zero (get_or xs 0 [])) parts.0 in absurd (cc);
       },
       λ h. and_from _ _ (not_from _ (λ yes. h.block_differs (first.0 yes)))
-      (slots.1 (λ t lt. kept_or (get_or class t true) _ (λ kept. (slot_test code xs t (width t lt)).1 (h.zeros t kept)))),
+          (slots.1 (λ t lt. kept_or (get_or class t true) _ (λ kept. (slot_test code xs t (width t lt)).1 (h.zeros t kept)))),
     )
 
 -- ---- a list of blocks and the list of its symbols
@@ -464,8 +462,7 @@ not_decided code loss numbers least decided =
 pub answer-none : (code : Code ℕ) (channel : ChannelNumbers) → IsCode IsByte code → IsChannel channel → (refuted_of code channel ≡ None) ↔ Meets 0 gf256_product code channel
 answer-none code channel hc limits =
     let some = classes-some channel limits.ordered in
-    let listed = Meets-iff_listed gf256_field gf256_action code channel hc limits.ordered in
-    (
+    let listed = Meets-iff_listed gf256_field gf256_action code channel hc limits.ordered in (
       λ none. listed.1 (λ i d lt. (IsDecidedOver-iff_bytes gf256_product code (get_or (classes_of channel) i d) (some i d lt)).0 (decided-none code 0 (classes_of channel) some none i d lt)),
       λ m. answer-meets code channel channel limits refl (listed.0 m),
     )

@@ -6,7 +6,6 @@ ghost use Rattle.sc_channel.specs.Classes.{classes_of};
 ghost use Rattle.sc_code.specs.Code.{Code as CodeOf, IsCode};
 ghost use Rattle.sc_code.specs.Determined.{IsDecided, Meets};
 ghost use Rattle.sc_check.specs.Failing.{DecidesAll, IsFirstFailing};
-
 ghost use Rattle.sc_field.specs.Gf256.{gf256_product};
 ghost use Rattle.sc_matrix.specs.Module.{IsByte};
 ghost use Rattle.sc_check.specs.Answer.{Refuted, refuted_of};

@@ -145,7 +145,8 @@ fn tells_the_least_refutation(rt: HostRuntime) -> Result<(), Fail> {
     Ok(())
 }
 
-// Each symbol again in four slots, 37 to 40 slots later, of which a class with all of the last `left` out of use leaves none.
+// A symbol that comes again 38, 39 and 40 slots later is lost for good in the last class alone, which has slot 0 and these three
+// slots. One that comes a fourth time is lost in none.
 #[test]
 fn walks_over_thousands_of_classes(rt: HostRuntime) -> Result<(), Fail> {
     let alloc = rt.alloc();

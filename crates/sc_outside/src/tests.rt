@@ -33,24 +33,52 @@ fn moves_in_pieces(rt: HostRuntime) -> Result<(), Fail> {
         assert!(rt; piece >= 1);
         let input = Vec::from_slice(rt.alloc(), &[1, 2, 3, 4, 5])?;
         let mut port = MemoryPort::new(rt.alloc(), input, 3, 9, piece, Vec::new(rt.alloc()))?;
-        let mut buf = [0; 3];
-        assert_eq!(rt;
-            read_exact_or_end(&mut port, &mut buf),
-            Ok(3),
+        let steps = [
+            (Step::Fill, Ok(3), [1, 2, 3]),
+            (Step::Fill, Ok(2), [4, 5, 3]),
+            (Step::Put(b"abc"), Ok(0), [4, 5, 3]),
+        ];
+        assert!(rt; takes_steps(&mut port, &steps), "pieces of {piece}");
+        assert!(rt;
+            port.given() == b"abc".as_slice() && port.journal() == journal,
             "pieces of {piece}"
         );
-        assert_eq!(rt; buf, [1, 2, 3], "pieces of {piece}");
-        assert_eq!(rt;
-            read_exact_or_end(&mut port, &mut buf),
-            Ok(2),
-            "pieces of {piece}"
-        );
-        assert_eq!(rt; buf, [4, 5, 3], "pieces of {piece}");
-        assert_eq!(rt; write_whole(&mut port, b"abc"), Ok(()), "pieces of {piece}");
-        assert_eq!(rt; port.given(), b"abc".as_slice(), "pieces of {piece}");
-        assert_eq!(rt; port.journal(), journal, "pieces of {piece}");
     }
     Ok(())
+}
+
+// A call on a port with a buffer of three bytes.
+#[derive(Copy, Clone)]
+enum Step {
+    Fill,
+    Take,
+    Put(&'static [u8]),
+}
+
+// What it answers: the number of bytes, and 0 for a whole piece.
+fn take_step(port: &mut MemoryPort, buf: &mut [u8; 3], step: Step) -> Result<usize, Failed> {
+    match step {
+        Step::Fill => read_exact_or_end(port, buf),
+        Step::Take => port.read(buf),
+        Step::Put(piece) => match write_whole(port, piece) {
+            Ok(()) => Ok(0),
+            Err(fault) => Err(fault),
+        },
+    }
+}
+
+// A step, what it answers, and the buffer after it.
+type Taken = (Step, Result<usize, Failed>, [u8; 3]);
+
+// Whether a port takes these steps so, one after the other.
+fn takes_steps(port: &mut MemoryPort, steps: &[Taken]) -> bool {
+    let mut buf = [0; 3];
+    for (step, answer, bytes) in steps {
+        if take_step(port, &mut buf, *step) != *answer || buf != *bytes {
+            return false;
+        }
+    }
+    true
 }
 
 #[test]
@@ -58,25 +86,23 @@ fn calls_that_fail(rt: HostRuntime) -> Result<(), Fail> {
     let input = Vec::from_slice(rt.alloc(), &[1, 2, 3, 4, 5, 6])?;
     let fails = Vec::from_slice(rt.alloc(), &[0, 2, 5])?;
     let mut port = MemoryPort::new(rt.alloc(), input, 4, 11, 2, fails)?;
-    let mut buf = [0; 3];
-    // call 0
-    assert_eq!(rt; read_exact_or_end(&mut port, &mut buf), Err(Failed));
-    assert_eq!(rt; buf, [0, 0, 0]);
-    // calls 1 and 2
-    assert_eq!(rt; read_exact_or_end(&mut port, &mut buf), Err(Failed));
-    assert_eq!(rt; buf, [1, 2, 0]);
-    // calls 3 and 4
-    assert_eq!(rt; read_exact_or_end(&mut port, &mut buf), Ok(3));
-    assert_eq!(rt; buf, [3, 4, 5]);
-    // call 5, and then calls 6 and 7
-    assert_eq!(rt; write_whole(&mut port, b"abc"), Err(Failed));
-    assert_eq!(rt; write_whole(&mut port, b"abc"), Ok(()));
-    // call 8 fills the room, and call 9 finds none
-    assert_eq!(rt; write_whole(&mut port, b"def"), Err(Failed));
-    // call 10, the last one that may move a byte
-    assert_eq!(rt; port.read(&mut buf), Ok(1));
-    assert_eq!(rt; port.read(&mut buf), Err(Failed));
-    assert_eq!(rt; buf, [6, 4, 5]);
+    let table: [Taken; 8] = [
+        // call 0
+        (Step::Fill, Err(Failed), [0, 0, 0]),
+        // calls 1 and 2
+        (Step::Fill, Err(Failed), [1, 2, 0]),
+        // calls 3 and 4
+        (Step::Fill, Ok(3), [3, 4, 5]),
+        // call 5, and then calls 6 and 7
+        (Step::Put(b"abc"), Err(Failed), [3, 4, 5]),
+        (Step::Put(b"abc"), Ok(0), [3, 4, 5]),
+        // call 8 fills the room, and call 9 finds none
+        (Step::Put(b"def"), Err(Failed), [3, 4, 5]),
+        // call 10, the last one that may move a byte
+        (Step::Take, Ok(1), [6, 4, 5]),
+        (Step::Take, Err(Failed), [6, 4, 5]),
+    ];
+    assert!(rt; takes_steps(&mut port, &table));
     assert_eq!(rt; port.given(), b"abcd".as_slice());
     let journal = [
         Read(2),

@@ -1,5 +1,5 @@
 -- What the first bad residue tells, as a function: none exactly where the channel accepts the certificate.
-use Rattle.std.proofs.Common.{◌≡◌, inl, inr, ℕ, zero as naught, suc, ◌+◌, ◌<◌, ◌≤◌, Bool, cond, [], ◌∷◌, true, false, List, length, get_or, is_some, Option, None, Some, MatchOption, refl, sym, ap, ◌∙◌, subst, arith, zero-add}
+use Rattle.std.proofs.Common.{◌≡◌, inl, inr, ℕ, zero as naught, suc, ◌+◌, ◌<◌, Bool, cond, [], ◌∷◌, true, false, List, length, get_or, is_some, Option, None, Some, MatchOption, refl, ap, ◌∙◌, subst, arith, zero-add}
 use Rattle.std.specs.Prelude.{not}
 use Rattle.std.specs.List.{position, position_or_len, range_with_len}
 use Rattle.std.proofs.lemmas.Bool.{cases_lt, lt-ltb}
@@ -7,7 +7,7 @@ use Rattle.std.proofs.lemmas.List.FromFn.{length-range_with_len, get_or-range_wi
 use Rattle.std.proofs.lemmas.List.Quantifiers.{position-Some}
 use Rattle.sc_channel.specs.Channel.{ChannelNumbers}
 use Rattle.sc_channel.specs.Certificate.{CertificateNumbers, IsAccepted, stretch}
-use Rattle.sc_channel.specs.Loss.{IsAdmissible, bad_window}
+use Rattle.sc_channel.specs.Loss.{IsAdmissible}
 use Rattle.sc_channel.proofs.WindowLaws.{bad_window-admissible, admissible-no_bad_window}
 use Rattle.sc_rate.specs.Residue.{IsFirstBadResidue, is_bad, bad_residue}
 

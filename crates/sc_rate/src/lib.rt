@@ -7,7 +7,8 @@ mod rate;
 mod residue;
 
 pub use laws::{
-    accepted_certificates_bound_byte_codes, bad_residue_answers, certificate_bounds_rate, standard_is_accepted,
+    accepted_certificates_bound_byte_codes, bad_residue_answers, certificate_bounds_rate,
+    standard_is_accepted,
 };
 pub use make_standard::{standard, standard_numbers};
 pub use rate::{Rate, compare, kept_slots};

@@ -1,10 +1,11 @@
 -- Differences under a loss: streams that the kept slots don't tell from the stream of zeros. The least one refutes a code.
 use Rattle.std.specs.Prelude.{◌≡◌, ◌≢◌, ◌⊎◌, ℕ, List, [], Bool, length, All, map, replicate, slice_index, slice_index_or}
+use Rattle.sc_channel.specs.Channel.{ChannelNumbers}
 use Rattle.sc_matrix.specs.Vector.{IsVector}
 use Rattle.sc_echelon.specs.Kernel.{IsBefore}
 use Rattle.sc_code.specs.Code.{Code}
 use Rattle.sc_code.specs.Stream.{IsStream, block_at, zero_block}
-use Rattle.sc_code.specs.Determined.{IsKept, IsZeroSlot}
+use Rattle.sc_code.specs.Determined.{IsKept, IsZeroSlot, IsRefutation}
 use Rattle.sc_window.specs.Window.{symbols_of, IsZeroWhereKept}
 
 -- A stream of elements with a block for each flag, which is zero in each kept slot, in block and parity, and whose block 0
@@ -38,3 +39,7 @@ pub record IsByteDifference {A : Type 0} (zero : A) (act : A → ℕ → ℕ) (c
 -- the least of these, by their bytes
 abbrev pub IsLeastByteDifference : {A : Type 0} → A → (A → ℕ → ℕ) → Code A → List Bool → List (List (List ℕ)) → Type 0
 IsLeastByteDifference zero act code class xs = IsLeastStream [] (λ symbol. slice_index symbol 0) (IsByteDifference zero act code class) xs
+
+-- the least stream that refutes a code with a loss, by its bytes
+abbrev pub IsLeastRefutation : {A : Type 0} → A → (A → ℕ → ℕ) → Code A → ChannelNumbers → List Bool → List (List (List ℕ)) → Type 0
+IsLeastRefutation zero act code channel loss xs = IsLeastStream [] (λ symbol. slice_index symbol 0) (IsRefutation zero act code channel loss) xs

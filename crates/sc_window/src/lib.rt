@@ -6,7 +6,7 @@ mod laws;
 mod window;
 
 pub use decide::{decides, least_difference};
-pub use laws::{differences_are_bytes, vectors_spell_streams};
+pub use laws::{differences_are_bytes, least_differences_refute, vectors_spell_streams};
 pub use window::window_matrix;
 
 #[cfg(test)]

@@ -200,7 +200,7 @@ fn classes_over_bytes(rt: HostRuntime) -> Result<(), Fail> {
     Ok(())
 }
 
-// Two symbols a block and one parity over GF(256): a script tried all 65,536 streams.
+// Two symbols a block and one parity over GF(256). Where one slot is lost, a script tried all 65,536 streams.
 #[test]
 fn symbols_of_a_byte(rt: HostRuntime) -> Result<(), Fail> {
     let alloc = rt.alloc();

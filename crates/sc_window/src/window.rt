@@ -16,8 +16,9 @@ use std::alloc::Global;
 
 /// The matrix whose kernel is the streams that are zero in each kept slot, in block and parity.
 ///
-/// `class` has a flag for each slot from slot 0 on, which is set where the slot is lost; there are at most 41. The matrix has a column for each symbol of a lost slot, in the order of the slots, and a row for each parity
-/// symbol of a kept slot. A vector of an entry for each column spells a stream, whose kept blocks are zero.
+/// `class` has a flag for each slot from slot 0 on, which is set where the slot is lost; there are at most 41. The matrix has a
+/// column for each symbol of a lost slot, in the order of the slots, and a row for each parity symbol of a kept slot. A vector
+/// of an entry for each column spells a stream, whose kept blocks are zero.
 ///
 /// It costs a look at one coefficient for each entry.
 pub fn window_matrix<F: Field>(

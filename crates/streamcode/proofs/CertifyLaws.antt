@@ -1,10 +1,10 @@
 -- `certify`, in the words of codes.
-use Rattle.std.proofs.Common.{◌≡◌, ◌≢◌, ◌==◌, Bool, true, false, cond, nat_lt, ℕ, ◌+◌, ◌*◌, ◌<◌, ◌≤◌, Option, None, Some, MatchOption, List, refl, sym, ap, ◌∙◌, subst, arith}
+use Rattle.std.proofs.Common.{◌≡◌, ◌≢◌, ◌==◌, Bool, true, false, cond, nat_lt, ℕ, ◌+◌, ◌*◌, ◌≤◌, Option, None, Some, MatchOption, List, refl, ap, arith}
 use Rattle.std.proofs.lemmas.Bool.Decides.{nat_tests}
-use Rattle.sc_outside.specs.Ends.{Due, only}
+use Rattle.sc_outside.specs.Ends.{Due}
 use Rattle.sc_channel.specs.Certificate.{CertificateNumbers, IsAccepted}
 use Rattle.sc_code.specs.declared.code.CodeFile.{CodeFile}
-use Rattle.sc_rate.specs.Compared.{beside, compared}
+use Rattle.sc_rate.specs.Compared.{beside}
 use Rattle.sc_rate.specs.Rate.{kept_count}
 use Rattle.sc_rate.specs.Residue.{IsFirstBadResidue, bad_residue}
 use Rattle.sc_rate.specs.declared.rate.Rate.TheVariants.{Below, Equal, Above}

@@ -1,5 +1,5 @@
 -- `check`, in the words of codes.
-use Rattle.std.proofs.Common.{◌≡◌, ◌↔◌, ℕ, ◌<◌, ◌≤◌, Bool, true, false, Option, None, Some, List, nat_lt, refl, sym, ap, ◌∙◌, subst, arith}
+use Rattle.std.proofs.Common.{◌≡◌, ℕ, ◌<◌, ◌≤◌, true, false, Option, None, Some, List, nat_lt, refl, sym, ap, ◌∙◌, arith}
 use Rattle.std.proofs.lemmas.Bool.Decides.{nat_tests}
 use Rattle.sc_outside.specs.Ends.{Due}
 use Rattle.sc_channel.specs.Classes.{class_count}
@@ -7,10 +7,9 @@ use Rattle.sc_code.specs.declared.code.CodeFile.{CodeFile}
 use Rattle.sc_check.specs.Answer.{Refuted, refuted_of}
 use Rattle.sc_check.proofs.AnswerLaws.{answer-none, answer-some}
 use Rattle.streamcode.specs.declared.end.End.{End}
-use Rattle.streamcode.specs.declared.end.End.TheVariants.{Accepted, Refused}
 use Rattle.streamcode.specs.End.{status_of}
-use Rattle.streamcode.specs.Jobs.{check_by, check_job}
-use Rattle.streamcode.specs.Verdict.{verdict_end, verdict_text, meets_text, fails_text}
+use Rattle.streamcode.specs.Jobs.{check_by}
+use Rattle.streamcode.specs.Verdict.{verdict_end, verdict_text}
 use Rattle.streamcode.specs.CheckLaws.{due_of_check, MayCheck, FileMeets, PrintsRefutation, ZeroIsMeeting, MeetingIsPrinted, OneIsRefuted, RefutationIsPrinted, ManyAreRefused}
 
 -- what is due by a verdict
@@ -43,8 +42,7 @@ status_there file input n may s = ap (λ (d : Due End). status_of d.answer) (sym
 
 pub zero-meeting : ZeroIsMeeting
 zero-meeting file input may =
-    let none = answer-none file.code file.channel may.code may.channel in
-    (
+    let none = answer-none file.code file.channel may.code may.channel in (
       λ s. none.0 (zero_of file (refuted_of file.code file.channel) (status_there file input 0 may s)),
       λ m. ap (λ (d : Due End). status_of d.answer) (due_as file input None may (none.1 m)),
     )

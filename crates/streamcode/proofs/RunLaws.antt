@@ -63,9 +63,11 @@ program_plan (generate seed count size) = gen_job-is seed count size
 program_plan (protect code size) = (inl refl, bytes_plan Code code_reading (code ∷ []) (λ file. owes (protect_job file size)) (λ file. protect_job-is file size))
 program_plan (check code workers) = (inl refl, bytes_plan Code code_reading (code ∷ []) (λ file. owes (check_job file)) (λ file. check_job-is file))
 program_plan (bound channel) = bound_job-is channel
-program_plan (certify code cert) =
-    (inl refl, bytes_plan Code code_reading (code ∷ cert ∷ []) (λ file. certificate_plan cert (λ certificate. owes (certify_job file certificate)))
-    (λ file. (inr (inl refl), bytes_plan Certificate certificate_reading (code ∷ cert ∷ []) (λ certificate. owes (certify_job file certificate)) (λ certificate. certify_job-is file certificate))))
+program_plan (certify code cert) = (
+  inl refl,
+  bytes_plan Code code_reading (code ∷ cert ∷ []) (λ file. certificate_plan cert (λ certificate. owes (certify_job file certificate)))
+      (λ file. (inr (inl refl), bytes_plan Certificate certificate_reading (code ∷ cert ∷ []) (λ certificate. owes (certify_job file certificate)) (λ certificate. certify_job-is file certificate))),
+)
 
 is_plan : (command : Option Command) → IsRunPlan (command_plan command)
 is_plan None = refusal-is false Usage

@@ -1,5 +1,5 @@
 -- What `check` prints. The lines are of this project.
-use Rattle.std.specs.Prelude.{ℕ, zero as naught, suc, ◌+◌, Bool, List, [], ◌∷◌, ◌++◌, Option, Some, None, codes, decimal, length, map, replicate}
+use Rattle.std.specs.Prelude.{ℕ, zero as naught, suc, ◌+◌, List, [], ◌∷◌, ◌++◌, Option, Some, None, codes, decimal, length, map, replicate}
 use Rattle.std.specs.List.{join_with_byte}
 use Rattle.sc_channel.specs.Channel.{ChannelNumbers}
 use Rattle.sc_channel.specs.Classes.{class_count}

@@ -13,9 +13,9 @@ mod lose_laws;
 mod note;
 mod program;
 mod protect;
-mod verdict;
 #[cfg(test)]
 mod tests;
+mod verdict;
 
 pub use check_laws::{certify_is_bounding, check_is_meeting};
 pub use end::{End, Role};

@@ -5,10 +5,10 @@ ghost use Rattle.streamcode.specs.Jobs.{lose_job, IsSilent};
 ghost use Rattle.sc_words.specs.Words.{is_loss_word, is_lost};
 
 use crate::end::End;
-use sc_words::read_loss_word;
 use sc_channel::{Channel, first_bad_window};
 use sc_outside::{NoMemory, Port};
 use sc_rtpdump::drop_records;
+use sc_words::read_loss_word;
 use std::alloc::Global;
 
 /// Copies the capture at the port without its lost records, where the loss is admissible for the channel.

@@ -2,13 +2,14 @@
 mod checking;
 
 use super::{End, Role, conclude, lose_is_thinning, run};
-use sc_check::{Gate, NoGate};
+use sc_check::NoGate;
 use sc_codefile::{FileFault, Key};
 use sc_outside::{MemoryCabinet, MemoryPort, MemorySink};
 use sc_rtpdump::{Dropped, DumpFault};
 use sc_slots::Protected;
 use std::alloc::{AllocError, Global};
 use std::test::Fail;
+use std::thread::Threads;
 
 /// The preamble of the captures: a line of 28 bytes, and 16 bytes.
 const PREAMBLE: &[u8] =
@@ -70,27 +71,28 @@ struct Answer {
 
 /// Runs the words of a line over an input in pieces of 7 bytes, with room for so many bytes, where call `fail` of the
 /// port fails.
-fn answer_of(
-    rt: &HostRuntime,
+fn answer_of<R: Threads + Sync>(
+    rt: &R,
+    alloc: Global,
     line: &str,
     input: &[&[u8]],
     room: usize,
     fail: u32,
 ) -> Result<Answer, Fail> {
-    let mut cabinet = no_files(rt.alloc());
-    answer_by(rt, line, &mut cabinet, input, room, fail)
+    let mut cabinet = no_files(alloc);
+    answer_by(rt, alloc, line, &mut cabinet, input, room, fail)
 }
 
 /// The same, with files.
-fn answer_by(
-    rt: &HostRuntime,
+fn answer_by<R: Threads + Sync>(
+    rt: &R,
+    alloc: Global,
     line: &str,
     cabinet: &mut MemoryCabinet,
     input: &[&[u8]],
     room: usize,
     fail: u32,
 ) -> Result<Answer, Fail> {
-    let alloc = rt.alloc();
     let words = words_of(alloc, line)?;
     let input = joined(alloc, input)?;
     let fails = vec![in alloc; fail]?;
@@ -131,7 +133,7 @@ fn lose_thins_and_refuses(rt: HostRuntime) -> Result<(), Fail> {
         ("lose 3 2 1 2 00", bare, 3, nothing, "preamble\n"),
         ("lose 3 2 1 2 2", one, 2, nothing, "usage\n"),
     ] {
-        let answer = answer_of(&rt, line, input, 1000, 1000)?;
+        let answer = answer_of(&rt, rt.alloc(), line, input, 1000, 1000)?;
         let given = joined(rt.alloc(), given)?;
         assert_eq!(rt; answer.status, status, "{line}");
         assert_eq!(rt; answer.given.as_slice(), given.as_slice(), "{line}");
@@ -168,7 +170,15 @@ fn thins_three_thousand_records(rt: HostRuntime) -> Result<(), Fail> {
     let mut notes = MemorySink::new(rt.alloc(), 128, Vec::new(rt.alloc()))?;
     let mut cabinet = no_files(rt.alloc());
     assert_eq!(rt;
-        run(&rt, rt.alloc(), &words, &mut cabinet, &mut port, &mut notes, &NoGate),
+        run(
+            &rt,
+            rt.alloc(),
+            &words,
+            &mut cabinet,
+            &mut port,
+            &mut notes,
+            &NoGate
+        ),
         0
     );
     assert!(rt; port.given() == kept.as_slice());
@@ -214,6 +224,24 @@ fn every_end_has_its_note(rt: HostRuntime) -> Result<(), Fail> {
         (End::FileTooLong(Role::Code), 4, "code limit 4194305\n"),
         (End::PacketTooWide(94_616), 4, "limit packet 94616\n"),
         (End::PacketTooLong(7, 1473), 4, "limit size 7 1473\n"),
+        (
+            End::FileTooLong(Role::Certificate),
+            4,
+            "certificate limit 4194305\n",
+        ),
+        (End::Accepted, 0, "accepted\n"),
+        (End::Refused, 1, "refused\n"),
+        (End::Bound(2, 4), 0, "bound 2/4\n"),
+        (
+            End::CertificateRefused(4095),
+            1,
+            "certificate refused at residue 4095\n",
+        ),
+        (
+            End::TooManyClasses(137_846_528_821),
+            11,
+            "classes 137846528821\n",
+        ),
         (End::TooManyRecords, 4, "limit records 8000001\n"),
         (End::TooManySlots, 4, "limit slots 4000001\n"),
         (End::Generated(0), 0, "records 0\n"),
@@ -272,7 +300,7 @@ fn faults_of_the_port_are_told(rt: HostRuntime) -> Result<(), Fail> {
         (1000, 35, 7, "read fault\n", 53),
         (50, 1000, 8, "write fault\n", 50),
     ] {
-        let answer = answer_of(&rt, "lose 3 2 1 2 010", all, room, fail)?;
+        let answer = answer_of(&rt, rt.alloc(), "lose 3 2 1 2 010", all, room, fail)?;
         assert_eq!(rt; answer.status, status, "{room} {fail}");
         assert_eq!(rt; answer.note.as_slice(), note.as_bytes());
         assert!(rt; whole.as_slice().starts_with(answer.given.as_slice()));
@@ -319,7 +347,7 @@ fn gen_generates_and_refuses(rt: HostRuntime) -> Result<(), Fail> {
         ("gen 42 1 11", 2, nothing, "usage\n"),
         ("gen 042 1 16", 2, nothing, "usage\n"),
     ] {
-        let answer = answer_of(&rt, line, input, 1000, 1000)?;
+        let answer = answer_of(&rt, rt.alloc(), line, input, 1000, 1000)?;
         let given = joined(rt.alloc(), given)?;
         assert_eq!(rt; answer.status, status, "{line}");
         assert_eq!(rt; answer.given.as_slice(), given.as_slice(), "{line}");
@@ -340,7 +368,7 @@ fn gen_stops_at_a_failed_write(rt: HostRuntime) -> Result<(), Fail> {
         (50, 1000, 50),
         (0, 1000, 0),
     ] {
-        let answer = answer_of(&rt, "gen 42 1 16", nothing, room, fail)?;
+        let answer = answer_of(&rt, rt.alloc(), "gen 42 1 16", nothing, room, fail)?;
         assert_eq!(rt; answer.status, 8, "{room} {fail}");
         assert_eq!(rt; answer.note.as_slice(), b"write fault\n".as_slice());
         assert!(rt; whole.as_slice().starts_with(answer.given.as_slice()));
@@ -365,7 +393,15 @@ fn generates_many_records(rt: HostRuntime) -> Result<(), Fail> {
         let mut port = MemoryPort::new(rt.alloc(), input, 2_000_000, 1000, 65_536, fails)?;
         let mut notes = MemorySink::new(rt.alloc(), 128, Vec::new(rt.alloc()))?;
         let mut cabinet = no_files(rt.alloc());
-        let answer = run(&rt, rt.alloc(), &words, &mut cabinet, &mut port, &mut notes, &NoGate);
+        let answer = run(
+            &rt,
+            rt.alloc(),
+            &words,
+            &mut cabinet,
+            &mut port,
+            &mut notes,
+            &NoGate,
+        );
         assert_eq!(rt; answer, status);
         assert_eq!(rt; port.given().len(), given);
         assert!(rt; port.given().starts_with(PREAMBLE));
@@ -437,6 +473,7 @@ fn protect_protects_and_refuses(rt: HostRuntime) -> Result<(), Fail> {
         let mut cabinet = one_file(rt.alloc(), "code.json", CODE)?;
         let answer = answer_by(
             &rt,
+            rt.alloc(),
             "protect code.json 12",
             &mut cabinet,
             input,
@@ -481,7 +518,7 @@ fn protect_judges_its_file(rt: HostRuntime) -> Result<(), Fail> {
         ("protect code.json 1472", &wide, 4, "limit packet 94616\n"),
     ] {
         let mut cabinet = one_file(rt.alloc(), "code.json", text)?;
-        let answer = answer_by(&rt, line, &mut cabinet, input, 1000, 1000)?;
+        let answer = answer_by(&rt, rt.alloc(), line, &mut cabinet, input, 1000, 1000)?;
         assert_eq!(rt; answer.status, status, "{line} {note}");
         assert_eq!(rt; answer.note.as_slice(), note.as_bytes());
         assert_eq!(rt; answer.moves, 0, "{line} {note}");
@@ -510,14 +547,30 @@ fn faults_of_protect_are_told(rt: HostRuntime) -> Result<(), Fail> {
         (0, 1000, 8, 0),
     ] {
         let mut cabinet = one_file(rt.alloc(), "c", CODE)?;
-        let answer = answer_by(&rt, "protect c 12", &mut cabinet, input, room, fail)?;
+        let answer = answer_by(
+            &rt,
+            rt.alloc(),
+            "protect c 12",
+            &mut cabinet,
+            input,
+            room,
+            fail,
+        )?;
         assert_eq!(rt; answer.status, status, "{room} {fail}");
         assert!(rt; whole.as_slice().starts_with(answer.given.as_slice()));
         assert_eq!(rt; answer.given.len(), given, "{room} {fail}");
     }
     let fails = Vec::from_slice(rt.alloc(), &[0])?;
     let mut failing = MemoryCabinet::new(Vec::new(rt.alloc()), fails);
-    let answer = answer_by(&rt, "protect c 12", &mut failing, input, 1000, 1000)?;
+    let answer = answer_by(
+        &rt,
+        rt.alloc(),
+        "protect c 12",
+        &mut failing,
+        input,
+        1000,
+        1000,
+    )?;
     assert_eq!(rt; answer.status, 7);
     assert_eq!(rt; answer.moves, 0);
     Ok(())
@@ -547,7 +600,15 @@ fn protects_what_it_generates(rt: HostRuntime) -> Result<(), Fail> {
         none,
     )?;
     assert_eq!(rt;
-        run(&rt, rt.alloc(), &words, &mut cabinet, &mut made, &mut notes, &NoGate),
+        run(
+            &rt,
+            rt.alloc(),
+            &words,
+            &mut cabinet,
+            &mut made,
+            &mut notes,
+            &NoGate
+        ),
         0
     );
     let words = words_of(rt.alloc(), "protect c 30")?;
@@ -555,7 +616,15 @@ fn protects_what_it_generates(rt: HostRuntime) -> Result<(), Fail> {
     let none = Vec::new(rt.alloc());
     let mut port = MemoryPort::new(rt.alloc(), input, 400_000, 10_000, 65_536, none)?;
     assert_eq!(rt;
-        run(&rt, rt.alloc(), &words, &mut cabinet, &mut port, &mut notes, &NoGate),
+        run(
+            &rt,
+            rt.alloc(),
+            &words,
+            &mut cabinet,
+            &mut port,
+            &mut notes,
+            &NoGate
+        ),
         0
     );
     let given = port.given();

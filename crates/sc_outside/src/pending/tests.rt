@@ -1,4 +1,6 @@
 //! Bytes that wait, over a port in memory: what each call answers, what waits then, and what the port took and gave.
+ghost use Rattle.std.specs.Prelude.{◌≤◌};
+
 use super::*;
 use crate::Move::{Read, Written};
 use crate::{MemoryPort, Move};
@@ -21,6 +23,31 @@ type Row<'a> = (
     &'a [u8],
 );
 
+// What taking in and flushing answered, what waits then, and what the port was given.
+#[derive(Drop)]
+struct Seen {
+    taken: Result<bool, Failed>,
+    flushed: Result<(), Failed>,
+    waiting: Vec<u8>,
+    given: Vec<u8>,
+}
+
+fn seen_of(alloc: Global, fails: &[u32], n: usize) -> Result<Seen, Fail>
+    requires { n ≤ 10 }
+{
+    let mut pending = Pending::new(alloc)?;
+    let mut port = small_port(alloc, fails)?;
+    pending.push(b"x");
+    let taken = pending.take_in(&mut port, n);
+    let flushed = pending.flush(&mut port);
+    Ok(Seen {
+        taken,
+        flushed,
+        waiting: Vec::from_slice(alloc, pending.bytes())?,
+        given: Vec::from_slice(alloc, port.given())?,
+    })
+}
+
 #[test]
 fn takes_in_and_flushes(rt: HostRuntime) -> Result<(), Fail> {
     // calls that fail, n, what taking in answers, what the flush answers, what waits, what was given
@@ -35,14 +62,12 @@ fn takes_in_and_flushes(rt: HostRuntime) -> Result<(), Fail> {
     ];
     for (fails, n, taken, flushed, waiting, given) in table {
         assert!(rt; n <= 10);
-        let mut pending = Pending::new(rt.alloc())?;
-        let mut port = small_port(rt.alloc(), fails)?;
-        pending.push(b"x");
-        assert_eq!(rt; pending.take_in(&mut port, n), taken, "{n}, {fails:?}");
-        assert_eq!(rt; pending.flush(&mut port), flushed, "{n}, {fails:?}");
-        assert_eq!(rt; pending.bytes(), waiting, "{n}, {fails:?}");
-        assert_eq!(rt; pending.len(), waiting.len(), "{n}, {fails:?}");
-        assert_eq!(rt; port.given(), given, "{n}, {fails:?}");
+        let seen = seen_of(rt.alloc(), fails, n)?;
+        let right = seen.taken == taken
+            && seen.flushed == flushed
+            && seen.waiting.as_slice() == waiting
+            && seen.given.as_slice() == given;
+        assert!(rt; right, "{n}, {fails:?}");
     }
     Ok(())
 }

@@ -29,6 +29,87 @@ type Row = (
     u32,
 );
 
+// What two calls answered, the bytes that they moved, the counts after them, and the calls of the stream.
+#[derive(Drop)]
+struct Seen {
+    answers: [Result<usize, Failed>; 2],
+    bytes: Vec<u8>,
+    read_faults: u64,
+    write_faults: u64,
+    calls: u32,
+}
+
+impl Seen {
+    fn is(
+        &self,
+        answers: [Result<usize, Failed>; 2],
+        bytes: &[u8],
+        read_faults: u64,
+        write_faults: u64,
+        calls: u32,
+    ) -> bool {
+        self.answers == answers
+            && self.bytes.as_slice() == bytes
+            && self.read_faults == read_faults
+            && self.write_faults == write_faults
+            && self.calls == calls
+    }
+}
+
+// One read into four bytes; those that it read are put behind `taken`.
+fn read_once(
+    port: &mut StreamPort<Script, Script>,
+    taken: &mut Vec<u8>,
+) -> Result<Result<usize, Failed>, Fail> {
+    let mut buf = [0; 4];
+    let got = port.read(&mut buf);
+    if let Ok(n) = got {
+        taken.extend_from_slice(&buf[..n])?;
+    }
+    Ok(got)
+}
+
+fn reads_of(
+    alloc: Global,
+    interrupts: u32,
+    moved: Option<usize>,
+    faults: u64,
+) -> Result<Seen, Fail> {
+    let mut port = port_over(alloc, interrupts, moved, faults)?;
+    let mut bytes = Vec::new(alloc);
+    let first = read_once(&mut port, &mut bytes)?;
+    let second = read_once(&mut port, &mut bytes)?;
+    Ok(Seen {
+        answers: [first, second],
+        bytes,
+        read_faults: port.read_faults,
+        write_faults: port.write_faults,
+        calls: port.input.get_ref().calls,
+    })
+}
+
+fn write_once(port: &mut StreamPort<Script, Script>) -> Result<usize, Failed> {
+    port.write(b"wxyz")
+}
+
+fn writes_of(
+    alloc: Global,
+    interrupts: u32,
+    moved: Option<usize>,
+    faults: u64,
+) -> Result<Seen, Fail> {
+    let mut port = port_over(alloc, interrupts, moved, faults)?;
+    let first = write_once(&mut port);
+    let second = write_once(&mut port);
+    Ok(Seen {
+        answers: [first, second],
+        bytes: Vec::from_slice(alloc, port.output.given.as_slice())?,
+        read_faults: port.read_faults,
+        write_faults: port.write_faults,
+        calls: port.output.calls,
+    })
+}
+
 #[test]
 fn reads(rt: HostRuntime) -> Result<(), Fail> {
     let table: [Row; 9] = [
@@ -59,22 +140,9 @@ fn reads(rt: HostRuntime) -> Result<(), Fail> {
         (0, Some(0), 5, [Ok(0), Ok(0)], b"", 5, 2),
     ];
     for (interrupts, moved, faults, answers, bytes, faults_after, calls) in table {
-        let mut port = port_over(rt.alloc(), interrupts, moved, faults)?;
-        let mut taken = Vec::new(rt.alloc());
-        for answer in answers {
-            let mut buf = [0; 4];
-            let got = port.read(&mut buf);
-            assert_eq!(rt; got, answer, "{interrupts}, {moved:?}");
-            if let Ok(n) = got {
-                taken.extend_from_slice(&buf[..n])?;
-            }
-        }
-        assert_eq!(rt; taken.as_slice(), bytes, "{interrupts}, {moved:?}");
-        assert_eq!(rt; port.read_faults, faults_after, "{interrupts}, {moved:?}");
-        assert_eq!(rt; port.write_faults, faults, "{interrupts}, {moved:?}");
-        assert_eq!(rt;
-            port.input.get_ref().calls,
-            calls,
+        let seen = reads_of(rt.alloc(), interrupts, moved, faults)?;
+        assert!(rt;
+            seen.is(answers, bytes, faults_after, faults, calls),
             "{interrupts}, {moved:?}"
         );
     }
@@ -111,18 +179,11 @@ fn writes(rt: HostRuntime) -> Result<(), Fail> {
         (0, Some(0), 5, [Err(Failed), Err(Failed)], b"", 7, 2),
     ];
     for (interrupts, moved, faults, answers, bytes, faults_after, calls) in table {
-        let mut port = port_over(rt.alloc(), interrupts, moved, faults)?;
-        for answer in answers {
-            assert_eq!(rt; port.write(b"wxyz"), answer, "{interrupts}, {moved:?}");
-        }
-        assert_eq!(rt;
-            port.output.given.as_slice(),
-            bytes,
+        let seen = writes_of(rt.alloc(), interrupts, moved, faults)?;
+        assert!(rt;
+            seen.is(answers, bytes, faults, faults_after, calls),
             "{interrupts}, {moved:?}"
         );
-        assert_eq!(rt; port.write_faults, faults_after, "{interrupts}, {moved:?}");
-        assert_eq!(rt; port.read_faults, faults, "{interrupts}, {moved:?}");
-        assert_eq!(rt; port.output.calls, calls, "{interrupts}, {moved:?}");
     }
     Ok(())
 }

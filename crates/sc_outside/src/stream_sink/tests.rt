@@ -1,6 +1,7 @@
 //! The adapter over a stream that is interrupted, fails or moves few bytes: its answers, its bytes and its count.
 use super::*;
 use crate::stream::tests::Script;
+use std::alloc::Global;
 use std::test::Fail;
 
 // Interrupted calls, bytes a call, the count of faults before; what a write answers, the bytes given, the count after
@@ -15,6 +16,32 @@ type Row = (
     u32,
 );
 
+// What a write answered, the bytes that were given, the count after it, and the calls of the stream.
+#[derive(Drop)]
+struct Seen {
+    answer: Result<usize, Failed>,
+    bytes: Vec<u8>,
+    faults: u64,
+    calls: u32,
+}
+
+fn writes_of(
+    alloc: Global,
+    interrupts: u32,
+    moved: Option<usize>,
+    faults: u64,
+) -> Result<Seen, Fail> {
+    let mut sink = StreamSink::new(Script::new(alloc, interrupts, moved));
+    sink.faults = faults;
+    let answer = sink.write(b"wxyz");
+    Ok(Seen {
+        answer,
+        bytes: Vec::from_slice(alloc, sink.output.given.as_slice())?,
+        faults: sink.faults,
+        calls: sink.output.calls,
+    })
+}
+
 #[test]
 fn writes(rt: HostRuntime) -> Result<(), Fail> {
     let table: [Row; 6] = [
@@ -26,16 +53,12 @@ fn writes(rt: HostRuntime) -> Result<(), Fail> {
         (0, Some(0), 0, Err(Failed), b"", 1, 1),
     ];
     for (interrupts, moved, faults, answer, bytes, faults_after, calls) in table {
-        let mut sink = StreamSink::new(Script::new(rt.alloc(), interrupts, moved));
-        sink.faults = faults;
-        assert_eq!(rt; sink.write(b"wxyz"), answer, "{interrupts}, {moved:?}");
-        assert_eq!(rt;
-            sink.output.given.as_slice(),
-            bytes,
-            "{interrupts}, {moved:?}"
-        );
-        assert_eq!(rt; sink.faults, faults_after, "{interrupts}, {moved:?}");
-        assert_eq!(rt; sink.output.calls, calls, "{interrupts}, {moved:?}");
+        let seen = writes_of(rt.alloc(), interrupts, moved, faults)?;
+        let right = seen.answer == answer
+            && seen.bytes.as_slice() == bytes
+            && seen.faults == faults_after
+            && seen.calls == calls;
+        assert!(rt; right, "{interrupts}, {moved:?}");
     }
     Ok(())
 }

@@ -1,9 +1,10 @@
 //! Whole runs of `check`. What is wanted is written out by hand from the definitions.
 use super::{answer_by, one_file, words_of};
-use crate::run;
-use sc_check::{Gate, NoGate};
+use crate::{certify_is_bounding, check_is_meeting, run};
+use sc_check::Gate;
 use sc_outside::{MemoryCabinet, MemoryPort, MemorySink};
-use std::sync::atomic::{AtomicBool, Ordering};
+use std::alloc::Global;
+use std::sync::atomic::{AtomicU64, Ordering};
 use std::test::Fail;
 
 /// A code with one symbol, whose parity is the symbol of two slots before, for the channel 3 2 1 2.
@@ -13,15 +14,15 @@ const REPEAT: &[u8] = b"{\"channel\":[3,2,1,2],\"k\":1,\"lags\":[[[0]],[[0]],[[1
 const REPEAT_TWO: &[u8] = b"{\"channel\":[3,2,2,2],\"k\":1,\"lags\":[[[0]],[[0]],[[1]]],\"r\":1}";
 
 /// A code with one symbol, whose parity is the symbol of three slots before, for the channel 4 3 3 3.
-const LATE: &[u8] =
-    b"{\"channel\":[4,3,3,3],\"k\":1,\"lags\":[[[0]],[[0]],[[0]],[[1]]],\"r\":1}";
+const LATE: &[u8] = b"{\"channel\":[4,3,3,3],\"k\":1,\"lags\":[[[0]],[[0]],[[0]],[[1]]],\"r\":1}";
 
 /// A code of two symbols and three parities, s0[t-2] + s1[t-1], s0[t-3] and s1[t-3], for the channel 4 3 2 3.
 const PAIR: &[u8] = b"{\"channel\":[4,3,2,3],\"k\":2,\"lags\":[[[0,0,0],[0,0,0]],[[0,0,0],[1,0,0]],\
     [[1,0,0],[0,0,0]],[[0,1,0],[0,0,1]],[[0,0,0],[0,0,0]]],\"r\":3}";
 
 /// The same for the channel 4 3 3 3.
-const PAIR_THREE: &[u8] = b"{\"channel\":[4,3,3,3],\"k\":2,\"lags\":[[[0,0,0],[0,0,0]],[[0,0,0],[1,0,0]],\
+const PAIR_THREE: &[u8] =
+    b"{\"channel\":[4,3,3,3],\"k\":2,\"lags\":[[[0,0,0],[0,0,0]],[[0,0,0],[1,0,0]],\
     [[1,0,0],[0,0,0]],[[0,1,0],[0,0,1]],[[0,0,0],[0,0,0]]],\"r\":3}";
 
 /// The smallest channel.
@@ -34,7 +35,13 @@ const MANY: &[u8] = b"{\"channel\":[41,7,7,40],\"k\":1,\"lags\":[[[0]]],\"r\":1}
 fn check_judges_codes(rt: HostRuntime) -> Result<(), Fail> {
     let late = "fails class 2\nloss 1101\nstream 1 0 0 0\nother 0 0 0 0\n";
     for (line, text, status, given, note) in [
-        ("check c 1", REPEAT, 0, "meets 3 2 1 2 rate 1/2 classes 2\n", "accepted\n"),
+        (
+            "check c 1",
+            REPEAT,
+            0,
+            "meets 3 2 1 2 rate 1/2 classes 2\n",
+            "accepted\n",
+        ),
         (
             "check c 1",
             REPEAT_TWO,
@@ -42,7 +49,13 @@ fn check_judges_codes(rt: HostRuntime) -> Result<(), Fail> {
             "fails class 2\nloss 101\nstream 1 0 0\nother 0 0 0\n",
             "refused\n",
         ),
-        ("check c 4", PAIR, 0, "meets 4 3 2 3 rate 2/5 classes 4\n", "accepted\n"),
+        (
+            "check c 4",
+            PAIR,
+            0,
+            "meets 4 3 2 3 rate 2/5 classes 4\n",
+            "accepted\n",
+        ),
         (
             "check c 1",
             PAIR_THREE,
@@ -50,7 +63,13 @@ fn check_judges_codes(rt: HostRuntime) -> Result<(), Fail> {
             "fails class 2\nloss 1101\nstream 0,1 0,0 0,0 0,0\nother 0,0 0,0 0,0 0,0\n",
             "refused\n",
         ),
-        ("check c 1", SMALLEST, 0, "meets 2 1 1 1 rate 1/2 classes 2\n", "accepted\n"),
+        (
+            "check c 1",
+            SMALLEST,
+            0,
+            "meets 2 1 1 1 rate 1/2 classes 2\n",
+            "accepted\n",
+        ),
         ("check c 1", LATE, 1, late, "refused\n"),
         ("check c 2", LATE, 1, late, "refused\n"),
         ("check c 64", LATE, 1, late, "refused\n"),
@@ -61,7 +80,7 @@ fn check_judges_codes(rt: HostRuntime) -> Result<(), Fail> {
         ("check c 1", b"[]", 3, "", "code shape whole\n"),
     ] {
         let mut cabinet = one_file(rt.alloc(), "c", text)?;
-        let answer = answer_by(&rt, line, &mut cabinet, &[], 1000, 1000)?;
+        let answer = answer_by(&rt, rt.alloc(), line, &mut cabinet, &[], 1000, 1000)?;
         assert_eq!(rt; answer.status, status, "{line} {note}");
         assert_eq!(rt; answer.given.as_slice(), given.as_bytes(), "{line} {note}");
         assert_eq!(rt; answer.note.as_slice(), note.as_bytes(), "{line}");
@@ -72,11 +91,165 @@ fn check_judges_codes(rt: HostRuntime) -> Result<(), Fail> {
 #[test]
 fn check_stops_at_a_failed_write(rt: HostRuntime) -> Result<(), Fail> {
     let line = "meets 3 2 1 2 rate 1/2 classes 2\n";
-    for (room, fail, status, given) in [(1000, 0, 8, 0), (1000, 2, 8, 14), (20, 1000, 8, 20), (33, 1000, 0, 33)] {
+    for (room, fail, status, given) in [
+        (1000, 0, 8, 0),
+        (1000, 2, 8, 14),
+        (20, 1000, 8, 20),
+        (33, 1000, 0, 33),
+    ] {
         let mut cabinet = one_file(rt.alloc(), "c", REPEAT)?;
-        let answer = answer_by(&rt, "check c 1", &mut cabinet, &[], room, fail)?;
+        let answer = answer_by(&rt, rt.alloc(), "check c 1", &mut cabinet, &[], room, fail)?;
         assert_eq!(rt; answer.status, status, "{room} {fail}");
-        assert_eq!(rt; answer.given.as_slice(), &line.as_bytes()[..given], "{room} {fail}");
+        assert_eq!(rt;
+            answer.given.as_slice(),
+            &line.as_bytes()[..given],
+            "{room} {fail}"
+        );
     }
+    Ok(())
+}
+
+/// A cabinet with a code's file and a certificate's.
+fn two_files(alloc: Global, code: &[u8], cert: &[u8]) -> Result<MemoryCabinet, Fail> {
+    let mut files = Vec::new(alloc);
+    files.push((String::from_str(alloc, "c")?, Vec::from_slice(alloc, code)?))?;
+    files.push((String::from_str(alloc, "d")?, Vec::from_slice(alloc, cert)?))?;
+    Ok(MemoryCabinet::new(files, Vec::new(alloc)))
+}
+
+#[test]
+fn certify_judges_certificates(rt: HostRuntime) -> Result<(), Fail> {
+    let good: &[u8] = b"{\"lost\":[0,1],\"period\":4}";
+    for (line, cert, status, given, note) in [
+        (
+            "certify c d",
+            good,
+            0,
+            "bound 2/4 code 1/2 equal\n",
+            "accepted\n",
+        ),
+        (
+            "certify c d",
+            b"{\"lost\":[0,1],\"period\":3}",
+            1,
+            "",
+            "certificate refused at residue 1\n",
+        ),
+        (
+            "certify c d",
+            b"{\"lost\":[],\"period\":1}",
+            0,
+            "bound 1/1 code 1/2 below\n",
+            "accepted\n",
+        ),
+        (
+            "certify c d",
+            b"{\"lost\":[0,2],\"period\":9}",
+            1,
+            "",
+            "certificate refused at residue 0\n",
+        ),
+        ("certify c d", b"{", 3, "", "certificate not json\n"),
+        (
+            "certify c d",
+            b"{\"lost\":[1,0],\"period\":4}",
+            3,
+            "",
+            "certificate range lost\n",
+        ),
+        (
+            "certify c d",
+            b"{\"lost\":[]}",
+            3,
+            "",
+            "certificate shape period\n",
+        ),
+        ("certify c e", good, 7, "", "read fault\n"),
+        ("certify e d", good, 7, "", "read fault\n"),
+        ("certify c", good, 2, "", "usage\n"),
+        (
+            "bound 3 2 1 2",
+            good,
+            0,
+            "{\"lost\":[0,1],\"period\":4}\n",
+            "bound 2/4\n",
+        ),
+        (
+            "bound 2 1 1 1",
+            good,
+            0,
+            "{\"lost\":[0],\"period\":2}\n",
+            "bound 1/2\n",
+        ),
+        ("bound 3 2 1 3", good, 2, "", "usage\n"),
+    ] {
+        let mut cabinet = two_files(rt.alloc(), REPEAT, cert)?;
+        let answer = answer_by(&rt, rt.alloc(), line, &mut cabinet, &[], 1000, 1000)?;
+        assert_eq!(rt; answer.status, status, "{line} {note}");
+        assert_eq!(rt; answer.given.as_slice(), given.as_bytes(), "{line} {note}");
+        assert_eq!(rt; answer.note.as_slice(), note.as_bytes(), "{line}");
+    }
+    check_is_meeting();
+    certify_is_bounding();
+    Ok(())
+}
+
+/// How often a job looks for the other one before it gives up.
+const TURNS: u32 = 50_000_000;
+
+/// Jobs 0 and 1 each wait for a while until the other one has entered too.
+#[derive(Drop)]
+struct Meeting {
+    first: AtomicU64,
+    second: AtomicU64,
+    alone: AtomicU64,
+}
+
+impl Gate for Meeting {
+    fn enter(&self, job: u32) {
+        let (mine, other) = match job {
+            0 => (&self.first, &self.second),
+            1 => (&self.second, &self.first),
+            _ => return,
+        };
+        mine.store(1, Ordering::SeqCst);
+        for _ in 0..TURNS {
+            if other.load(Ordering::SeqCst) == 1 {
+                return;
+            }
+        }
+        self.alone.store(1, Ordering::SeqCst);
+    }
+}
+
+#[test]
+fn workers_of_a_run_meet(rt: HostRuntime) -> Result<(), Fail> {
+    let gate = Meeting {
+        first: AtomicU64::new(0),
+        second: AtomicU64::new(0),
+        alone: AtomicU64::new(0),
+    };
+    let alloc = rt.alloc();
+    let words = words_of(alloc, "check c 2")?;
+    let mut cabinet = one_file(alloc, "c", PAIR)?;
+    let mut port = MemoryPort::new(alloc, Vec::new(alloc), 100, 100, 7, Vec::new(alloc))?;
+    let mut notes = MemorySink::new(alloc, 128, Vec::new(alloc))?;
+    let status = run(
+        &rt,
+        alloc,
+        &words,
+        &mut cabinet,
+        &mut port,
+        &mut notes,
+        &gate,
+    );
+    assert_eq!(rt; status, 0);
+    assert_eq!(rt;
+        port.given(),
+        b"meets 4 3 2 3 rate 2/5 classes 4\n".as_slice()
+    );
+    assert_eq!(rt; gate.first.load(Ordering::SeqCst), 1);
+    assert_eq!(rt; gate.second.load(Ordering::SeqCst), 1);
+    assert_eq!(rt; gate.alone.load(Ordering::SeqCst), 0);
     Ok(())
 }

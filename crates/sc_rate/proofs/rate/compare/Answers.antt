@@ -1,4 +1,4 @@
-use Rattle.std.proofs.Common.{◌+◌, ◌*◌, ◌≤◌, length, arith}
+use Rattle.std.proofs.Common.{◌+◌, ◌*◌, ◌≤◌, arith}
 use Rattle.sc_rate.specs.Rate.{kept_count}
 use Rattle.sc_rate.proofs.ByteCodeSteps.{byte_code_bounded}
 use Rattle.sc_rate.proofs.rate.compare.Goals as goal

@@ -3,7 +3,7 @@ use Rattle.streamcode.specs.Files.{certificate_plan}
 use Rattle.streamcode.specs.Jobs.{certify_job}
 use Rattle.streamcode.specs.Plans.{owes}
 use Rattle.streamcode.specs.declared.end.Role.TheVariants.{Code}
-use Rattle.streamcode.proofs.FileLaws.{came-not, came-file}
+use Rattle.streamcode.proofs.FileLaws.{came-not}
 use Rattle.streamcode.proofs.bound.certify.Goals as goal
 
 pub returns-in-Err : goal.returns-in-Err

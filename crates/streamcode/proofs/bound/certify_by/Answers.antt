@@ -2,7 +2,7 @@ use Rattle.sc_codefile.specs.Reading.{certificate_reading}
 use Rattle.streamcode.specs.Jobs.{certify_job}
 use Rattle.streamcode.specs.Plans.{owes}
 use Rattle.streamcode.specs.declared.end.Role.TheVariants.{Certificate}
-use Rattle.streamcode.proofs.FileLaws.{came-not, came-file}
+use Rattle.streamcode.proofs.FileLaws.{came-not}
 use Rattle.streamcode.proofs.bound.certify_by.Goals as goal
 
 pub returns-in-Err : goal.returns-in-Err

@@ -1,9 +1,8 @@
-use Rattle.std.proofs.Common.{refl}
 use Rattle.streamcode.specs.Jobs.{check_job}
 use Rattle.streamcode.specs.Plans.{owes}
 use Rattle.sc_codefile.specs.Reading.{code_reading}
 use Rattle.streamcode.specs.declared.end.Role.TheVariants.{Code}
-use Rattle.streamcode.proofs.FileLaws.{came-not, came-file}
+use Rattle.streamcode.proofs.FileLaws.{came-not}
 use Rattle.streamcode.proofs.check.check.Goals as goal
 
 pub returns-in-Err : goal.returns-in-Err

@@ -1,4 +1,4 @@
-use Rattle.std.proofs.Common.{◌≡◌, ◌++◌, [], map, take, string_bytes, slice_index_or}
+use Rattle.std.proofs.Common.{◌≡◌, ◌++◌, map, take, string_bytes}
 use Rattle.std.specs.List.{join_with_byte}
 use Rattle.streamcode.specs.Verdict.{block_text}
 use Rattle.streamcode.proofs.verdict.push_stream.Given as goal

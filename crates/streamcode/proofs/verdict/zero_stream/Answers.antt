@@ -1,4 +1,4 @@
-use Rattle.std.proofs.Common.{◌≡◌, ◌*◌, ◌%◌, ◌/◌, replicate, length, ap, ◌∙◌, sym, arith}
+use Rattle.std.proofs.Common.{◌≡◌, ◌*◌, ◌%◌, ◌/◌, replicate, length, ap, ◌∙◌, arith}
 use Rattle.std.proofs.Math.Nat.{mul-mod_left, mul-div_cancel}
 use Rattle.std.proofs.lemmas.List.{length-replicate}
 use Rattle.sc_matrix.specs.Layout.{cut}
