@@ -55,11 +55,7 @@ fn makes_each_coefficient(rt: HostRuntime) -> Result<(), Fail> {
     ];
     for (place, number) in want.iter().enumerate() {
         let (lag, i, j) = (place / 9, place / 3 % 3, place % 3);
-        assert_eq!(rt;
-            number_at(&code, lag, i, j),
-            *number,
-            "at {lag} {i} {j}"
-        );
+        assert_eq!(rt; number_at(&code, lag, i, j), *number, "at {lag} {i} {j}");
     }
     Ok(())
 }
