@@ -13,7 +13,7 @@ use Rattle.sc_codefile.specs.Value.{IsValueOf, IsNotJson}
 use Rattle.sc_codefile.specs.Fault.{first_of, IsFirstFault, IsRefusedFor}
 use Rattle.sc_codefile.specs.CodeFile.{code_faults, IsCodeFile, IsCodeFileText}
 use Rattle.sc_codefile.specs.CertificateFile.{certificate_faults, IsCertificateFile, IsCertificateText}
-use Rattle.sc_codefile.specs.LossFile.{loss_faults, IsLossFile, IsLossText}
+use Rattle.sc_codefile.specs.LossFile.{loss_faults, IsLossText}
 use Rattle.sc_codefile.specs.Reading.{file_at, certificate_at, loss_of, reading_by, file_reading, code_reading, certificate_reading, loss_reading}
 use Rattle.sc_codefile.proofs.CodeSteps.{with_cols-rows_of}
 use Rattle.sc_codefile.proofs.FileSteps.{no_fault-file}

@@ -435,7 +435,10 @@ fn losses(rt: HostRuntime) -> Result<(), Fail> {
         ("{\"loss\":\"0\"", Err(FileFault::NotJson)),
         ("\"0110\"", Err(FileFault::Shape(Key::Whole))),
         ("[]", Err(FileFault::Shape(Key::Whole))),
-        ("{\"loss\":\"0\",\"lost\":[0]}", Err(FileFault::Shape(Key::Other))),
+        (
+            "{\"loss\":\"0\",\"lost\":[0]}",
+            Err(FileFault::Shape(Key::Other)),
+        ),
         ("{\"Loss\":\"0\"}", Err(FileFault::Shape(Key::Other))),
         ("{}", Err(FileFault::Shape(Key::Loss))),
         ("{\"loss\":[0,1]}", Err(FileFault::Shape(Key::Loss))),
@@ -448,7 +451,10 @@ fn losses(rt: HostRuntime) -> Result<(), Fail> {
             (Ok(flags), Ok(word)) => {
                 assert_eq!(rt; flags.len(), word.len());
                 for (place, byte) in word.as_bytes().iter().enumerate() {
-                    assert!(rt; flags.as_slice().get(place) == Some(&(*byte == b'1')), "{text}");
+                    assert!(rt;
+                        flags.as_slice().get(place) == Some(&(*byte == b'1')),
+                        "{text}"
+                    );
                 }
             }
             (Err(fault), Err(want)) => assert_eq!(rt; fault, want),
@@ -458,29 +464,53 @@ fn losses(rt: HostRuntime) -> Result<(), Fail> {
     Ok(())
 }
 
-// The longest loss reads back, and one flag more is too many.
-#[test]
-fn longest_loss_reads_back(rt: HostRuntime) -> Result<(), Fail> {
-    let alloc = rt.alloc();
-    let printed = print_loss(alloc, &Flags::new(alloc))?;
-    assert_eq!(rt; printed.as_slice(), b"{\"loss\":\"\"}".as_slice());
-    let mut flags = vec![in alloc; false; MAX_FLAGS]?;
-    for place in 0..MAX_FLAGS {
-        flags[place] = place % 3 == 1;
+// A loss of so many flags, each third one set.
+fn loss_of_thirds(alloc: Global, count: usize) -> Result<Flags, Fail> {
+    let mut flags = Flags::new(alloc);
+    for place in 0..count {
+        flags.push(place % 3 == 1)?;
     }
-    let loss = Flags::from_vec(flags);
+    Ok(flags)
+}
+
+// The text of a loss file with so many characters.
+fn text_of_ones(alloc: Global, count: usize) -> Result<String, Fail> {
+    let mut text = String::from_str(alloc, "{\"loss\":\"")?;
+    for _flag in 0..count {
+        text.push_str("1")?;
+    }
+    text.push_str("\"}")?;
+    Ok(text)
+}
+
+// The printed loss, where it isn't too long.
+fn printed_loss(alloc: Global, loss: &Flags) -> Result<Vec<u8>, Fail> {
     if loss.len() <= MAX_FLAGS {
-        let printed = print_loss(alloc, &loss)?;
-        assert_eq!(rt; printed.len(), MAX_FLAGS + 11);
+        Ok(print_loss(alloc, loss)?)
+    } else {
+        Err("too many flags")?
+    }
+}
+
+// Losses of these lengths read back.
+#[test]
+fn losses_read_back(rt: HostRuntime) -> Result<(), Fail> {
+    let alloc = rt.alloc();
+    for count in [0, 1, MAX_FLAGS] {
+        let loss = loss_of_thirds(alloc, count)?;
+        let printed = printed_loss(alloc, &loss)?;
+        assert!(rt; printed.len() > count && printed.len() - count == 11);
         let again = read_loss(alloc, &printed)?;
         assert_eq!(rt; again.as_slice(), loss.as_slice());
     }
-    let mut long = String::from_str(alloc, "{\"loss\":\"")?;
-    for _flag in 0..MAX_FLAGS + 1 {
-        long.push_str("1")?;
-    }
-    long.push_str("\"}")?;
-    let refused = read_loss(alloc, long.as_bytes());
+    Ok(())
+}
+
+// One flag more than a loss has is too many.
+#[test]
+fn refuses_a_longer_loss(rt: HostRuntime) -> Result<(), Fail> {
+    let text = text_of_ones(rt.alloc(), MAX_FLAGS + 1)?;
+    let refused = read_loss(rt.alloc(), text.as_bytes());
     assert!(rt; matches!(&refused, Err(FileFault::Range(Key::Loss))));
     Ok(())
 }

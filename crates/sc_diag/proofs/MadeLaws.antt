@@ -1,8 +1,8 @@
 -- Matrices and codes that are made by their entries.
-use Rattle.std.proofs.Common.{◌≡◌, ◌⊎◌, inl, inr, ℕ, ◌+◌, ◌-◌, ◌<◌, ◌==◌, Bool, true, false, if◌then◌else◌, List, [], All, length, get_or, map, ◌++◌, ◌≢◌, Result, Ok, Err, IsOk, refl, sym, ap, ◌∙◌, arith}
+use Rattle.std.proofs.Common.{◌≡◌, inl, inr, ℕ, ◌+◌, ◌<◌, Bool, if◌then◌else◌, List, [], All, length, get_or, map, ◌≢◌, Result, Ok, Err, IsOk, refl, sym, ap, ◌∙◌, arith}
 use Rattle.std.specs.List.{range_with_len}
 use Rattle.std.proofs.lemmas.Bool.{ne_eqb, eq-eqb, cases_lt}
-use Rattle.std.proofs.lemmas.List.{get_or_past, length-map}
+use Rattle.std.proofs.lemmas.List.{get_or_past}
 use Rattle.std.proofs.lemmas.List.FromFn.{length-map-range_with_len, get_or-map-range_with_len, map-range_with_len_more}
 use Rattle.sc_matrix.specs.Matrix.{Matrix, row_count, entry, with_last_row}
 use Rattle.sc_code.specs.declared.code.CodeFault.{CodeFault}

@@ -94,7 +94,7 @@ mod tests {
         }
         let draws = Draws::new(rt.alloc(), 0, 20_000)?;
         for (place, want) in [(0, 42), (1, 219), (2, 165), (19_999, 89)] {
-            assert_eq!(rt; draws.get(place), want);
+            assert!(rt; place < 20_000 && draws.get(place) == want, "draw {place}");
         }
         Ok(())
     }

@@ -7,17 +7,23 @@ use sc_field::Field;
 use std::process::Abort;
 use std::test::Fail;
 
+// The number of a coefficient, and 255 past the code's sizes.
+fn number_at(code: &ByteCode, lag: usize, i: usize, j: usize) -> u8 {
+    if lag <= code.memory() && i < code.k() && j < code.r() {
+        code.coefficient(lag, i, j).number()
+    } else {
+        255
+    }
+}
+
 // The numbers of a code's coefficients by lag, row and column, each times its place from 1 on, in a sum by 1000003.
 fn sum_of(code: &ByteCode) -> u64 {
-    let mut sum = 0;
-    let mut place = 1;
-    for lag in 0..code.memory() + 1 {
-        for i in 0..code.k() {
-            for j in 0..code.r() {
-                sum = (sum + place * u64::from(code.coefficient(lag, i, j).number())) % 1_000_003;
-                place = (place + 1) % 1_000_003;
-            }
-        }
+    let (k, r) = (code.k(), code.r());
+    let mut sum = 0u64;
+    for place in 0..(code.memory() + 1) * k * r {
+        let (lag, i, j) = (place / r / k, place / r % k, place % r);
+        let number = u64::from(number_at(code, lag, i, j));
+        sum = sum.wrapping_add(number.wrapping_mul(place as u64 + 1)) % 1_000_003;
     }
     sum
 }
@@ -49,11 +55,7 @@ fn makes_each_coefficient(rt: HostRuntime) -> Result<(), Fail> {
     ];
     for (place, number) in want.iter().enumerate() {
         let (lag, i, j) = (place / 9, place / 3 % 3, place % 3);
-        assert_eq!(rt;
-            code.coefficient(lag, i, j).number(),
-            *number,
-            "at {lag} {i} {j}"
-        );
+        assert_eq!(rt; number_at(&code, lag, i, j), *number, "at {lag} {i} {j}");
     }
     Ok(())
 }

@@ -1,6 +1,6 @@
 -- Burst codes after Martinian and Sundberg ("Burst erasure correction codes with low decoding delay"): the parity matrix of a
 -- block code, interleaved diagonally. Which Cauchy matrix stands in it is of this project.
-use Rattle.std.specs.Prelude.{◌≡◌, ℕ, ◌+◌, ◌<◌, ◌==◌, nat_lt, bit_xor, if◌then◌else◌}
+use Rattle.std.specs.Prelude.{ℕ, ◌+◌, ◌==◌, nat_lt, bit_xor, if◌then◌else◌}
 use Rattle.sc_field.specs.Gf256.{gf256_inverse}
 use Rattle.sc_matrix.specs.Matrix.{Matrix}
 use Rattle.sc_code.specs.Code.{Code}

@@ -1,5 +1,5 @@
 -- What the makers answer, and the search through the candidates.
-use Rattle.std.proofs.Common.{◌≡◌, ◌↔◌, ◌⊎◌, inl, inr, ℕ, suc, ◌+◌, ◌-◌, ◌<◌, ◌≤◌, Bool, true, false, if◌then◌else◌, is_none, nat_lt, List, Option, Some, None, Result, Ok, Err, IfOk, IfErr, refl, sym, ap, ◌∙◌, subst, arith}
+use Rattle.std.proofs.Common.{◌≡◌, ◌↔◌, ◌⊎◌, inl, inr, ℕ, suc, ◌+◌, ◌-◌, ◌<◌, ◌≤◌, Bool, true, false, is_none, nat_lt, List, Option, Some, None, Result, Ok, Err, IfOk, IfErr, refl, sym, ap, ◌∙◌, subst, arith}
 use Rattle.std.proofs.lemmas.Bool.{cases_lt, lt-ltb, le-ltb}
 use Rattle.sc_field.specs.Gf256.{gf256_product}
 use Rattle.sc_code.specs.Code.{Code}
@@ -19,8 +19,8 @@ use Rattle.sc_optimal.specs.declared.kind.MakerKind.TheVariants.{Ms, Layered, Op
 use Rattle.sc_optimal.specs.declared.design.Found.{Found}
 use Rattle.sc_optimal.specs.declared.kind.DesignFault.{DesignFault}
 use Rattle.sc_optimal.specs.declared.kind.DesignFault.TheVariants.{NotBurst, TooWide, TooManyClasses, NoCode, Memory}
-use Rattle.sc_optimal.specs.Candidates.{candidate, candidate_count, candidate_width, IsNotBurst, HasCandidates, IsTooWide, IsMakeFault, burst_fault, wide_fault, IsGood}
-use Rattle.sc_optimal.specs.Design.{IsFirstGood, AllFail, IsTriedGood, IsTriedBad, IsFoundFirst, IsFoundNone, IsSearched, IsCheckable, IsDesigned, IsRefusedFor, is_not_burst, found_at, first_from, design_of}
+use Rattle.sc_optimal.specs.Candidates.{candidate, candidate_count, candidate_width, IsNotBurst, HasCandidates, IsMakeFault, burst_fault, wide_fault, IsGood}
+use Rattle.sc_optimal.specs.Design.{IsTriedGood, IsTriedBad, IsFoundFirst, IsFoundNone, IsSearched, IsCheckable, IsDesigned, IsRefusedFor, is_not_burst, found_at, first_from, design_of}
 
 ok_err : {A E : Type 0} (a : A) (e : E) → Ok a ≡ Err e → ⊥
 ok_err {A} {E} a e h = subst (λ (r : Result A E). IfErr r (λ _. ⊥)) h tt

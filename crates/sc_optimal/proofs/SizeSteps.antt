@@ -1,14 +1,13 @@
 -- The sizes of a candidate's matrices.
-use Rattle.std.proofs.Common.{◌≡◌, ℕ, ◌+◌, ◌*◌, ◌≤◌, ap, ◌∙◌, arith, bit_xor}
+use Rattle.std.proofs.Common.{◌≡◌, ℕ, ◌+◌, ◌*◌, ◌≤◌, ap, ◌∙◌, arith}
 use Rattle.std.proofs.Math.Nat.{mul-le-mul}
 use Rattle.std.proofs.lemmas.List.{length-map}
 use Rattle.rand_pcg.specs.Lcg.{Lcg}
 use Rattle.sc_layered.specs.Draw.{generator, nonzero_at}
-use Rattle.sc_field.specs.Gf256.{gf256_product}
-use Rattle.sc_matrix.specs.Matrix.{Matrix, row_count, product}
+use Rattle.sc_matrix.specs.Matrix.{Matrix, row_count}
 use Rattle.sc_channel.specs.Channel.{ChannelNumbers}
 use Rattle.sc_diag.proofs.MadeLaws.{row_count-matrix_with}
-use Rattle.sc_optimal.specs.Optimal.{OptimalSizes, optimal_sizes, optimal_entry, optimal_matrix, drawn_matrix, low_rank, first_rows, other_cols, left_from, right_from}
+use Rattle.sc_optimal.specs.Optimal.{OptimalSizes, optimal_sizes, optimal_entry, optimal_matrix, drawn_matrix, low_rank, first_rows, left_from}
 
 pub rows-drawn : (words : Lcg) (from n c : ℕ) (m : Matrix ℕ) → m ≡ drawn_matrix words from n c → row_count m ≡ n
 rows-drawn words from n c m e = ap row_count e ∙ row_count-matrix_with n c (λ i j. nonzero_at words (from + (i * c + j)))

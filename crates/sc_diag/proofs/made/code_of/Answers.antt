@@ -1,6 +1,3 @@
-use Rattle.std.proofs.Common.{◌≡◌, ℕ, List, All, length, sym, ap, ◌∙◌, subst}
-use Rattle.sc_matrix.specs.Matrix.{Matrix}
-use Rattle.sc_code.specs.Code.{IsInRange, HasShape}
 use Rattle.sc_diag.proofs.MadeLaws.{no_code_fault, shapes-code_with, length-lags}
 use Rattle.sc_diag.proofs.made.code_of.Goals as goal
 

@@ -1,4 +1,4 @@
-use Rattle.std.proofs.Common.{◌≡◌, ◌<◌, ◌≤◌, inl, inr, ℕ, false, refl}
+use Rattle.std.proofs.Common.{◌<◌, inl, inr, false, refl}
 use Rattle.std.proofs.lemmas.Bool.{both_ways, cases_lt}
 use Rattle.sc_channel.specs.Classes.{class_count}
 use Rattle.sc_optimal.proofs.DesignSteps.{answer_classes, answer_searched}

@@ -1,5 +1,4 @@
-use Rattle.std.proofs.Common.{◌≡◌, subst, arith}
-use Rattle.sc_optimal.specs.Candidates.{candidate_count}
+use Rattle.std.proofs.Common.{subst, arith}
 use Rattle.sc_optimal.specs.Design.{IsTried}
 use Rattle.sc_optimal.proofs.DesignSteps.{behind_none, behind_more, behind_found, behind_all}
 use Rattle.sc_optimal.proofs.design.first_of.Goals as goal

@@ -1,4 +1,4 @@
-use Rattle.std.proofs.Common.{refl, ap, sym, ◌∙◌, subst}
+use Rattle.std.proofs.Common.{ap, sym, ◌∙◌}
 use Rattle.sc_check.specs.Answer.{told_by}
 use Rattle.sc_optimal.proofs.DesignSteps.{tried_good, tried_bad, fails_meets}
 use Rattle.sc_optimal.proofs.design.good_candidate.Goals as goal

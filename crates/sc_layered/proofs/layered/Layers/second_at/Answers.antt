@@ -1,4 +1,4 @@
-use Rattle.std.proofs.Common.{ℕ, ◌+◌, ◌*◌, ◌<◌, arith}
+use Rattle.std.proofs.Common.{◌+◌, ◌*◌, arith}
 use Rattle.sc_layered.proofs.PlaceLaws.{place_below}
 use Rattle.sc_layered.proofs.layered.Layers.second_at.Goals as goal
 
