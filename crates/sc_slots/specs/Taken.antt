@@ -1,5 +1,5 @@
 -- The slots that a repairer takes.
-use Rattle.std.specs.Prelude.{◌≡◌, ℕ, ◌+◌, ◌-◌, ◌<◌, ◌≤◌, ⊤, List, [], ◌∷◌, ◌++◌, Option, Some, None, Contains, AllPairs, max, nat_le, nat_eq, if◌then◌else◌}
+use Rattle.std.specs.Prelude.{◌≡◌, ℕ, ◌+◌, ◌-◌, ◌<◌, ◌≤◌, ⊤, List, [], ◌∷◌, length, take, slice_index_or, Option, Some, None, Contains, AllPairs, max, nat_le, nat_eq, if◌then◌else◌}
 use Rattle.sc_matrix.specs.Layout.{cut}
 use Rattle.sc_code.specs.Code.{Code}
 use Rattle.sc_slots.specs.Slot.{Slot}
@@ -83,4 +83,4 @@ pub data HasFittingEnd {A : Type 0} (taken : List (Taken A)) (slot : Taken A) : 
 
 -- Each taken slot fits the ends claimed before it.
 abbrev pub HaveFittingEnds : {A : Type 0} → List (Taken A) → Type 0
-HaveFittingEnds {A} taken = (before after : List (Taken A)) (slot : Taken A) → before ++ slot ∷ after ≡ taken → HasFittingEnd before slot
+HaveFittingEnds {A} taken = (i : ℕ) (d : Taken A) → i < length taken → HasFittingEnd (take i taken) (slice_index_or taken i d)
