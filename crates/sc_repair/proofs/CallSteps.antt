@@ -24,8 +24,8 @@ use Rattle.sc_repair.proofs.StandsSteps.{history_at_start, history_given_up, his
 
 -- ---- start
 
-pub Stands-start : (k r memory deadline m : ℕ) (known : Knowledge ℕ) → known ≡ nothing_known (places_for memory deadline * k) m → Stands (kept_by k r memory deadline m 0 0 0 0 0 false false known) []
-Stands-start k r memory deadline m known e =
+pub Stands-start : (k r memory deadline m : ℕ) (known : Knowledge ℕ) (block : List ℕ) → known ≡ nothing_known (places_for memory deadline * k) m → Stands (kept_by k r memory deadline m 0 0 0 0 0 false false known block) []
+Stands-start k r memory deadline m known block e =
     record {
       put = 0;
       put_before = omega arith;
@@ -191,8 +191,8 @@ module _ (s : Repairer) (sound : IsSound s) (taken : List (Taken ℕ)) (h : Stan
         not_settled-from_kept 0 gf256_product s.k s.m s.deadline s.memory taken s.passed t (s.front + places_for s.memory s.deadline) s.front kept by_next (inr (in_time, no_kept_block x))
 
     -- slot t is put out
-    pub Stands-put : (value : Option (List (List ℕ))) → IsSettled 0 gf256_product s.k s.m s.deadline taken s.passed t value → Stands (record s { next = t + 1 }) taken
-    Stands-put value settled =
+    pub Stands-put : (value : Option (List (List ℕ))) (block : List ℕ) → IsSettled 0 gf256_product s.k s.m s.deadline taken s.passed t value → Stands (record s { next = t + 1; block = block }) taken
+    Stands-put value block settled =
         record {
           put = t + 1;
           put_before = omega arith;
@@ -213,8 +213,8 @@ not_settled_at_passed s taken h on e =
 
 -- ---- the end of the input
 
-pub Stands-later : (s : Repairer) (next : ℕ) (taken : List (Taken ℕ)) → s.next ≤ next → Stands s taken → Stands (record s { next = next; finished = true }) taken
-Stands-later s next taken le h =
+pub Stands-later : (s : Repairer) (next : ℕ) (block : List ℕ) (taken : List (Taken ℕ)) → s.next ≤ next → Stands s taken → Stands (record s { next = next; finished = true; block = block }) taken
+Stands-later s next block taken le h =
     let before = h.put_before in
     record {
       put = h.put;

@@ -1,6 +1,6 @@
 -- What a repairer keeps.
 use Rattle.std.specs.Prelude.{◌≡◌, ℕ, ◌+◌, ◌-◌, ◌*◌, ◌<◌, ◌≤◌, ◌⊎◌, Bool, true, false, max, List, length, refl}
-use Rattle.std.specs.Coded.{Coded, code_by, coded×, coded_ℕ, coded_bool}
+use Rattle.std.specs.Coded.{Coded, code_by, coded×, coded_ℕ, coded_bool, coded_list}
 use Rattle.sc_code.specs.Code.{IsInRange}
 use Rattle.sc_echelon.specs.Knowledge.{Knowledge}
 use Rattle.sc_echelon.specs.Kept.{knowledge_code}
@@ -8,7 +8,7 @@ use Rattle.sc_echelon.specs.Kept.{knowledge_code}
 -- The numbers of the code, the deadline and the bytes of a symbol; the first kept slot, how many slots are passed, and the
 -- next one to be put out; one above the last taken slot, or 0; the end that is claimed, or else one above the greatest
 -- source slot taken, or 0; whether the input is at its end; and what is known of the symbols of the kept slots and of
--- those that find a place behind them.
+-- those that find a place behind them. And the block that was put out last.
 pub record Repairer : Type 0 where
   pub k : ℕ
   pub r : ℕ
@@ -23,14 +23,15 @@ pub record Repairer : Type 0 where
   pub is_claimed : Bool
   pub finished : Bool
   pub known : Knowledge ℕ
+  pub block : List ℕ
 
 -- a repairer is stored as the tuple of its fields
 abbrev pub repairer_code : Coded Repairer
 repairer_code =
-    code_by ((((ℕ × ℕ) × (ℕ × ℕ)) × ((ℕ × ℕ) × (ℕ × ℕ))) × (((ℕ × ℕ) × (Bool × Bool)) × Knowledge ℕ))
+    code_by ((((ℕ × ℕ) × (ℕ × ℕ)) × ((ℕ × ℕ) × (ℕ × ℕ))) × (((ℕ × ℕ) × (Bool × Bool)) × (Knowledge ℕ × List ℕ)))
     (coded× (coded× (coded× (coded× coded_ℕ coded_ℕ) (coded× coded_ℕ coded_ℕ)) (coded× (coded× coded_ℕ coded_ℕ) (coded× coded_ℕ coded_ℕ)))
-    (coded× (coded× (coded× coded_ℕ coded_ℕ) (coded× coded_bool coded_bool)) (knowledge_code coded_ℕ)))
-    (λ s. ((((s.k, s.r), (s.memory, s.deadline)), ((s.m, s.front), (s.passed, s.next))), (((s.past, s.end), (s.is_claimed, s.finished)), s.known)))
+    (coded× (coded× (coded× coded_ℕ coded_ℕ) (coded× coded_bool coded_bool)) (coded× (knowledge_code coded_ℕ) (coded_list coded_ℕ))))
+    (λ s. ((((s.k, s.r), (s.memory, s.deadline)), ((s.m, s.front), (s.passed, s.next))), (((s.past, s.end), (s.is_claimed, s.finished)), (s.known, s.block))))
     (λ p. record {
       k = p.0.0.0.0;
       r = p.0.0.0.1;
@@ -44,7 +45,8 @@ repairer_code =
       end = p.1.0.0.1;
       is_claimed = p.1.0.1.0;
       finished = p.1.0.1.1;
-      known = p.1.1;
+      known = p.1.1.0;
+      block = p.1.1.1;
     })
     (λ _. refl)
 
@@ -68,6 +70,7 @@ pub record IsSound (s : Repairer) : Type 0 where
   pub past_passed : s.past ≤ s.passed
   pub few : s.passed ≤ 4000000
   pub end_limit : s.end ≤ 4000000
+  pub block_room : length s.block ≡ s.k * s.m
 
 -- A slot of this number and end byte fits the ends so far: a source slot comes before any claim, the first claim is no less
 -- than the source slots taken, and each later claim is the same.
@@ -76,8 +79,8 @@ FitsEnd false least number end = (end ≡ 0) ⊎ ((0 < end) × (least ≤ number
 FitsEnd true known number end = (0 < end) × (number + 1 - end ≡ known)
 
 -- the repairer of these numbers
-abbrev pub kept_by : ℕ → ℕ → ℕ → ℕ → ℕ → ℕ → ℕ → ℕ → ℕ → ℕ → Bool → Bool → Knowledge ℕ → Repairer
-kept_by k r memory deadline m front passed next past end is_claimed finished known = record {
+abbrev pub kept_by : ℕ → ℕ → ℕ → ℕ → ℕ → ℕ → ℕ → ℕ → ℕ → ℕ → Bool → Bool → Knowledge ℕ → List ℕ → Repairer
+kept_by k r memory deadline m front passed next past end is_claimed finished known block = record {
   k = k;
   r = r;
   memory = memory;
@@ -91,11 +94,11 @@ kept_by k r memory deadline m front passed next past end is_claimed finished kno
   is_claimed = is_claimed;
   finished = finished;
   known = known;
+  block = block;
 }
 
--- the numbers are sound, and there is room for a row and for a block
-pub record IsRoomy (s : Repairer) (places : ℕ) (row block : List ℕ) : Type 0 where
+-- the numbers are sound, and there is room for a row
+pub record IsRoomy (s : Repairer) (places : ℕ) (row : List ℕ) : Type 0 where
   pub sound : IsSound s
   pub place_count : places ≡ places_for s.memory s.deadline
   pub row_room : length row ≡ places * s.k
-  pub block_room : length block ≡ s.k * s.m

@@ -9,8 +9,8 @@ use Rattle.sc_slots.specs.Taken.{Taken, one_past, claimed, least_end, known_end,
 use Rattle.sc_slots.specs.Repair.{IsRecovered, IsSettledAs, IsMissed, IsSettled}
 use Rattle.sc_slots.specs.Rows.{HasSymbolsIn}
 use Rattle.sc_slots.specs.History.{IsHistory}
-use Rattle.sc_repair.specs.declared.repairer.Out.{Out}
-use Rattle.sc_repair.specs.declared.repairer.Out.TheVariants.{Block, Missed}
+use Rattle.sc_repair.specs.declared.repairer.Put.{Put}
+use Rattle.sc_repair.specs.declared.repairer.Put.TheVariants.{Block, Missed}
 use Rattle.sc_repair.specs.Repairer.{Repairer, places_for}
 
 -- the end that is claimed, or else one above the greatest source slot taken, or 0
@@ -40,12 +40,12 @@ pub record Stands (s : Repairer) (taken : List (Taken ℕ)) : Type 0 where
   pub fitting : HaveFittingEnds taken
   pub shapes : (slot : Taken ℕ) → Contains taken slot → HasShape s slot
 
--- what is put out next while the input goes on
-abbrev pub IsNext : Repairer → List (Taken ℕ) → Option Out → Type 0
-IsNext s taken (Some (Block slot block)) =
-    (slot ≡ s.next) × IsSettledAs 0 gf256_product s.k s.m s.deadline taken s.passed s.next (cut s.k s.m block.now)
-IsNext s taken (Some (Missed slot)) = (slot ≡ s.next) × IsMissed 0 gf256_product s.k s.m s.deadline taken s.passed s.next
-IsNext s taken None =
+-- what is put out next while the input goes on, where this is the block that is put out
+abbrev pub IsNext : Repairer → List (Taken ℕ) → List ℕ → Option Put → Type 0
+IsNext s taken block (Some (Block slot)) =
+    (slot ≡ s.next) × IsSettledAs 0 gf256_product s.k s.m s.deadline taken s.passed s.next (cut s.k s.m block)
+IsNext s taken block (Some (Missed slot)) = (slot ≡ s.next) × IsMissed 0 gf256_product s.k s.m s.deadline taken s.passed s.next
+IsNext s taken block None =
     (value : Option (List (List ℕ))) → IsSettled 0 gf256_product s.k s.m s.deadline taken s.passed s.next value → ⊥
 
 -- slot t isn't recovered
@@ -57,16 +57,16 @@ abbrev pub ArePassedOver : Repairer → List (Taken ℕ) → ℕ → Type 0
 ArePassedOver s taken t = (i : ℕ) → s.next ≤ i → i < t → (known_end taken ≤ i) × IsNotRecovered s taken i
 
 -- what is put out next once the input is at its end: the next slot up to the last taken one that is recovered or missed
-abbrev pub IsLeft : Repairer → List (Taken ℕ) → Option Out → Type 0
-IsLeft s taken (Some (Block slot block)) =
-    (s.next ≤ slot) × (slot < one_past taken) × IsRecovered 0 gf256_product s.k s.m s.deadline taken slot (cut s.k s.m block.now)
+abbrev pub IsLeft : Repairer → List (Taken ℕ) → List ℕ → Option Put → Type 0
+IsLeft s taken block (Some (Block slot)) =
+    (s.next ≤ slot) × (slot < one_past taken) × IsRecovered 0 gf256_product s.k s.m s.deadline taken slot (cut s.k s.m block)
     × ArePassedOver s taken slot
-IsLeft s taken (Some (Missed slot)) =
+IsLeft s taken block (Some (Missed slot)) =
     (s.next ≤ slot) × (slot < known_end taken) × IsNotRecovered s taken slot × ArePassedOver s taken slot
-IsLeft s taken None = ArePassedOver s taken (one_past taken)
+IsLeft s taken block None = ArePassedOver s taken (one_past taken)
 
 -- how far the next call is
-abbrev pub OutCounts : Repairer → Repairer → Option Out → Type 0
-OutCounts old new (Some (Block slot block)) = (new ≡ record old { next = slot + 1 }) × (slot < old.passed) × (length block.now ≡ old.k * old.m)
-OutCounts old new (Some (Missed slot)) = (new ≡ record old { next = slot + 1 }) × (slot < old.passed)
-OutCounts old new None = (new ≡ old) × (old.finished ≡ false → old.passed ≤ old.next + old.deadline)
+abbrev pub OutCounts : Repairer → Repairer → Option Put → Type 0
+OutCounts old new (Some (Block slot)) = (new ≡ record old { next = slot + 1; block = new.block }) × (slot < old.passed)
+OutCounts old new (Some (Missed slot)) = (new ≡ record old { next = slot + 1; block = new.block }) × (slot < old.passed)
+OutCounts old new None = (new ≡ record old { block = new.block }) × (old.finished ≡ false → old.passed ≤ old.next + old.deadline)

@@ -4,4 +4,4 @@
 mod equations;
 mod repairer;
 
-pub use repairer::{EndState, MAX_SLOTS, Out, Repairer, TakeFault, Unfit};
+pub use repairer::{EndState, MAX_SLOTS, Put, Repairer, TakeFault, Unfit};

@@ -66,21 +66,13 @@ pub enum TakeFault {
     Clash(u32),
 }
 
-/// A slot that is put out.
+/// A slot that is put out, with its number.
 #[derive(Clone, Copy, Debug, PartialEq, Eq)]
-pub enum Out<'a> {
-    /// Its block is determined.
-    Block {
-        /// The slot's number.
-        slot: u32,
-        /// The block, of `k * m` bytes.
-        block: &'a [u8],
-    },
+pub enum Put {
+    /// Its block is determined: [`Repairer::block`] has it.
+    Block(u32),
     /// Its deadline is over, and its block isn't determined.
-    Missed {
-        /// The slot's number.
-        slot: u32,
-    },
+    Missed(u32),
 }
 
 /// Takes the slots of a protected stream that arrived, in order, and gives out each block once it is determined.
@@ -118,9 +110,9 @@ impl Model for Repairer {
 
     ghost coded = { repairer_code };
 
-    ghost view = { λ s. kept_by s.k s.r s.memory s.deadline s.m s.front s.passed s.next s.past s.end s.claimed s.finished s.known };
+    ghost view = { λ s. kept_by s.k s.r s.memory s.deadline s.m s.front s.passed s.next s.past s.end s.claimed s.finished s.known s.block.items };
 
-    ghost invariant = { λ s. IsRoomy (kept_by s.k s.r s.memory s.deadline s.m s.front s.passed s.next s.past s.end s.claimed s.finished s.known) s.places s.row.items s.block.items };
+    ghost invariant = { λ s. IsRoomy (kept_by s.k s.r s.memory s.deadline s.m s.front s.passed s.next s.past s.end s.claimed s.finished s.known s.block.items) s.places s.row.items };
 }
 
 impl Repairer {
@@ -330,13 +322,13 @@ impl Repairer {
 
     /// The next slot to be put out, in rising order.
     ///
-    /// While the input goes on, it comes once it is settled: its block as soon as all streams that fit have the same, and
-    /// `Missed` once its deadline is over without that. `None` comes exactly where it isn't settled. After `finish` the
+    /// While the input goes on, it comes once it is settled: as a block as soon as all streams that fit have the same, and
+    /// as missed once its deadline is over without that. `None` comes exactly where it isn't settled. After `finish` the
     /// slots up to the last taken one are left: each comes whose block is recovered, and as missed each other one below the
     /// known end. It takes no memory.
-    pub fn next_out(&mut self) -> Option<Out<'_>>
-        ensures next { self.old.finished ≡ false → (taken : List (Taken ℕ)) → Stands self.old taken → IsNext self.old taken result }
-        ensures left { self.old.finished ≡ true → (taken : List (Taken ℕ)) → Stands self.old taken → IsLeft self.old taken result }
+    pub fn next_out(&mut self) -> Option<Put>
+        ensures next { self.old.finished ≡ false → (taken : List (Taken ℕ)) → Stands self.old taken → IsNext self.old taken self.new.block result }
+        ensures left { self.old.finished ≡ true → (taken : List (Taken ℕ)) → Stands self.old taken → IsLeft self.old taken self.new.block result }
         ensures stands { (taken : List (Taken ℕ)) → Stands self.old taken → Stands self.new taken }
         ensures counts { OutCounts self.old self.new result }
     {
@@ -346,10 +338,18 @@ impl Repairer {
         self.next_settled()
     }
 
+    /// The block that was put out last, of `k * m` bytes.
+    pub fn block(&self) -> &[u8]
+        ensures bytes { result.now ≡ self.now.block }
+        ensures count { length result.now ≡ self.now.k * self.now.m }
+    {
+        self.block.as_slice()
+    }
+
     // The next slot while the input goes on.
-    fn next_settled(&mut self) -> Option<Out<'_>>
+    fn next_settled(&mut self) -> Option<Put>
         requires { self.old.finished ≡ false }
-        ensures next { (taken : List (Taken ℕ)) → Stands self.old taken → IsNext self.old taken result }
+        ensures next { (taken : List (Taken ℕ)) → Stands self.old taken → IsNext self.old taken self.new.block result }
         ensures stands { (taken : List (Taken ℕ)) → Stands self.old taken → Stands self.new taken }
         ensures counts { OutCounts self.old self.new result }
     {
@@ -357,26 +357,23 @@ impl Repairer {
         if slot == self.passed {
             return None;
         }
-        let place = (slot - self.front) as usize;
-        let m = usize::from(self.m);
-        if read_block(&self.known, self.k, m, place, self.block.as_mut_slice()) {
+        let (place, m) = ((slot - self.front) as usize, usize::from(self.m));
+        let block = self.block.as_mut_slice();
+        if read_block(&self.known, self.k, m, place, block) {
             self.next = slot + 1;
-            return Some(Out::Block {
-                slot,
-                block: self.block.as_slice(),
-            });
+            return Some(Put::Block(slot));
         }
         if self.passed - slot <= self.deadline {
             return None;
         }
         self.next = slot + 1;
-        Some(Out::Missed { slot })
+        Some(Put::Missed(slot))
     }
 
     // The next slot once the input is at its end.
-    fn next_left(&mut self) -> Option<Out<'_>>
+    fn next_left(&mut self) -> Option<Put>
         requires { self.old.finished ≡ true }
-        ensures left { (taken : List (Taken ℕ)) → Stands self.old taken → IsLeft self.old taken result }
+        ensures left { (taken : List (Taken ℕ)) → Stands self.old taken → IsLeft self.old taken self.new.block result }
         ensures stands { (taken : List (Taken ℕ)) → Stands self.old taken → Stands self.new taken }
         ensures counts { OutCounts self.old self.new result }
     {
@@ -388,13 +385,7 @@ impl Repairer {
             None => None,
             Some((slot, whole)) => {
                 self.next = slot + 1;
-                if whole {
-                    return Some(Out::Block {
-                        slot,
-                        block: self.block.as_slice(),
-                    });
-                }
-                Some(Out::Missed { slot })
+                Some(if whole { Put::Block(slot) } else { Put::Missed(slot) })
             }
         }
     }

@@ -22,5 +22,5 @@ returns-clause-stands c =
     let most = c.max-places.ensures in
     let cols : (c.max-places.result + 1) * c.k-k.result ≡ (max c.memory-memory.result c.args.deadline + 1) * c.k-k.result = ap (λ (x : ℕ). (x + 1) * c.k-k.result) most in
     let width : c.from-width.result ≡ c.args.m = c.from-width.ensures in
-    Stands-start c.k-k.result c.r.result c.memory-memory.result c.args.deadline c.args.m c.in_ok-known.known
+    Stands-start c.k-k.result c.r.result c.memory-memory.result c.args.deadline c.args.m c.in_ok-known.known c.in_ok-block.block.items
     (known ∙ ap₂ (λ (a b : ℕ). nothing_known a b) cols width)
