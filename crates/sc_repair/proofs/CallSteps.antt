@@ -1,16 +1,14 @@
 -- The same, for the numbers of a repairer: what each call says of the histories that it stands for.
-use Rattle.std.proofs.Common.{◌≡◌, ◌≢◌, ℕ, ◌+◌, ◌-◌, ◌*◌, ◌<◌, ◌≤◌, ◌⊎◌, ◌↔◌, Bool, true, false, List, [], ◌∷◌, ◌++◌, length, get_or, max, min, Option, Some, None, All, refl, sym, ap, ◌∙◌, subst, arith, inl, inr}
-use Rattle.std.proofs.lemmas.Bool.{cases_lt}
+use Rattle.std.proofs.Common.{◌≡◌, ℕ, ◌+◌, ◌-◌, ◌*◌, ◌<◌, ◌≤◌, ◌↔◌, Bool, true, false, List, [], ◌∷◌, ◌++◌, Option, Some, None, All, refl, sym, ap, ◌∙◌, subst, arith, inl, inr}
 use Rattle.std.proofs.lemmas.List.Elements.{Contains-push_cases}
 use Rattle.sc_field.specs.Gf256.{gf256_product}
 use Rattle.sc_matrix.specs.Module.{IsByte}
 use Rattle.sc_matrix.specs.Vector.{IsVector}
 use Rattle.sc_matrix.specs.Layout.{cut}
 use Rattle.sc_matrix.proofs.LayoutLaws.{length-cut}
-use Rattle.sc_echelon.specs.Knowledge.{Knowledge, IsSolution, IsBytes, Forgets, nothing_known}
-use Rattle.sc_code.specs.Code.{Code, IsCode}
+use Rattle.sc_echelon.specs.Knowledge.{Knowledge, IsSolution, Forgets, nothing_known}
 use Rattle.sc_code.specs.Stream.{IsBlock, block_at}
-use Rattle.sc_slots.specs.Taken.{Taken, one_past, claimed, claimed_or, known_end, HasFittingEnd}
+use Rattle.sc_slots.specs.Taken.{Taken, one_past, claimed, claimed_or, known_end}
 use Rattle.sc_slots.specs.Repair.{IsRecovered, IsSettledAs, IsMissed, IsSettled, IsClash}
 use Rattle.sc_slots.specs.Rows.{HasSymbolsIn, MeetsRows}
 use Rattle.sc_slots.specs.History.{IsHistory}
@@ -18,8 +16,10 @@ use Rattle.sc_slots.proofs.HistoryLaws.{IsHistory-lost, IsHistory-put, IsSettled
 use Rattle.sc_slots.proofs.ColumnLaws.{block_kept-iff_symbols, no_block_where_open}
 use Rattle.sc_slots.proofs.EndLaws.{one_past-last}
 use Rattle.sc_repair.specs.Repairer.{Repairer, places_for, kept_by, IsSound, FitsEnd}
-use Rattle.sc_repair.specs.Stands.{Stands, HasShape, HasEnd, IsNotRecovered}
-use Rattle.sc_repair.specs.Equations.{IsBlockAt, IsOpenPlace}
+use Rattle.sc_repair.specs.Stands.{Stands, HasShape, HasEnd, IsNotRecovered, ArePassedOver, IsLeft}
+use Rattle.sc_repair.specs.declared.repairer.Put.{Put}
+use Rattle.sc_repair.specs.declared.repairer.Put.TheVariants.{Block, Missed}
+use Rattle.sc_repair.specs.Equations.{IsBlockAt, IsOpenPlace, AreOpenFrom, FindsLeft}
 use Rattle.sc_repair.proofs.StandsSteps.{history_at_start, history_given_up, history_taken, clash_where_refused, FitsEnd-iff_fitting, fitting-push}
 
 -- ---- start
@@ -236,3 +236,54 @@ pub known_end-open : (s : Repairer) (taken : List (Taken ℕ)) → s.is_claimed 
 known_end-open s taken e h =
     let it : HasEnd false s.end taken = subst (λ (b : Bool). HasEnd b s.end taken) e h.has_end in
     ap (λ (o : Option ℕ). claimed_or (one_past taken) o) it.0 ∙ sym h.past
+
+-- another block in the room for one
+pub Stands-block : (s : Repairer) (block : List ℕ) (taken : List (Taken ℕ)) → Stands s taken → Stands (record s { block = block }) taken
+Stands-block s block taken h =
+    record {
+      put = h.put;
+      put_before = h.put_before;
+      is_put = h.is_put;
+      history = h.history;
+      past = h.past;
+      has_end = h.has_end;
+      fitting = h.fitting;
+      shapes = λ slot x. (let y = h.shapes slot x in record { is_code = y.is_code; symbols = y.symbols; parities = y.parities; lags = y.lags; block = y.block; parity = y.parity });
+    }
+
+-- the slots that the search passed over
+pub passed_over : (s : Repairer) (end to : ℕ) → IsSound s → (taken : List (Taken ℕ)) → Stands s taken → known_end taken ≡ end → to ≤ s.past → AreOpenFrom s.known s.k s.front end s.next to → ArePassedOver s taken to
+passed_over s end to sound taken h e le wide i from lt =
+    let past = sound.past_passed in
+    let it = wide i from lt in
+    let above = it.0 in
+    (omega arith, not_recovered_where_open s sound taken h i from (omega arith) it.1)
+
+-- what the search found, as a slot that is put out
+abbrev pub put_of : Option (ℕ × Bool) → Option Put
+put_of None = None
+put_of (Some (slot, true)) = Some (Block slot)
+put_of (Some (slot, false)) = Some (Missed slot)
+
+pub left_found : (s : Repairer) (end : ℕ) → IsSound s → (taken : List (Taken ℕ)) → Stands s taken → known_end taken ≡ end → (block : List ℕ) (found : Option (ℕ × Bool)) → FindsLeft s.known s.k s.m s.front end s.next s.past block found → IsLeft s taken block (put_of found)
+left_found s end sound taken h e block None x =
+    subst (λ (n : ℕ). ArePassedOver s taken n) h.past (passed_over s end s.past sound taken h e (omega arith) x)
+left_found s end sound taken h e block (Some (slot, true)) x =
+    let past = sound.past_passed in
+    let last = h.past in
+    let lt : slot < s.past = x.1 in
+    (x.0, omega arith, recovered_where_known s sound taken h slot x.0 (omega arith) block x.2, passed_over s end slot sound taken h e (omega arith) x.3)
+left_found s end sound taken h e block (Some (slot, false)) x =
+    let past = sound.past_passed in
+    let lt : slot < s.past = x.1 in
+    let below : slot < end = x.2 in
+    (x.0, omega arith, not_recovered_where_open s sound taken h slot x.0 (omega arith) x.3, passed_over s end slot sound taken h e (omega arith) x.4)
+
+-- what is found lies behind the slots put out before
+pub found_from : (known : Knowledge ℕ) (k m front end from to : ℕ) (block : List ℕ) (slot : ℕ) (whole : Bool) → FindsLeft known k m front end from to block (Some (slot, whole)) → from ≤ slot
+found_from known k m front end from to block slot true x = x.0
+found_from known k m front end from to block slot false x = x.0
+
+-- one slot more is put out at the end of the input
+pub Stands-left : (s : Repairer) (next : ℕ) (block : List ℕ) (taken : List (Taken ℕ)) → s.finished ≡ true → s.next ≤ next → Stands s taken → Stands (record s { next = next; block = block }) taken
+Stands-left s next block taken ended le h = subst (λ (f : Bool). Stands (record s { next = next; block = block; finished = f }) taken) (sym ended) (Stands-later s next block taken le h)

@@ -1,13 +1,12 @@
 -- The rows of a taken slot as lists, and how what is known grows row by row.
-use Rattle.std.proofs.Common.{◌≡◌, ◌≢◌, ℕ, zero as nought, suc, ◌+◌, ◌-◌, ◌*◌, ◌<◌, ◌≤◌, ◌&&◌, false, cond, eqb, leb, List, [], ◌∷◌, ◌++◌, length, get_or, map, set, take, drop, flat_map, replicate, refl, sym, ap, ap₂, ◌∙◌, subst, arith, suc-mul, length-set, inl, inr}
+use Rattle.std.proofs.Common.{◌≡◌, ◌≢◌, ℕ, zero as nought, suc, ◌+◌, ◌*◌, ◌<◌, ◌≤◌, ◌&&◌, false, cond, eqb, List, ◌++◌, length, get_or, map, set, take, drop, flat_map, replicate, sym, ap, ap₂, ◌∙◌, subst, arith, suc-mul, length-set, inl, inr}
 use Rattle.std.specs.List.{range_with_len}
 use Rattle.std.proofs.lemmas.Bool.{cases_lt, cases_eq, cond-true, cond-false, eq-eqb, ne_eqb, and_left, and_right, and_from}
 use Rattle.std.proofs.lemmas.List.{length-replicate, length-take-le, length-drop, get_or-replicate, get_or-take, get_or-drop, get_or-set_same, get_or-set_other, set-set, set-get_or, ext_get_or, take-append-drop, nil_from_length}
 use Rattle.std.proofs.lemmas.List.FromFn.{length-map-range_with_len, get_or-map-range_with_len}
 use Rattle.std.proofs.Math.Nat.{mul_assoc, mul-le-mul_right}
-use Rattle.sc_field.specs.Gf256.{gf256_product}
 use Rattle.sc_matrix.proofs.LayoutLaws.{row_within}
-use Rattle.sc_echelon.specs.Knowledge.{Knowledge, IsSolution}
+use Rattle.sc_echelon.specs.Knowledge.{Knowledge}
 use Rattle.sc_slots.specs.Rows.{row_of, symbol_row}
 use Rattle.sc_repair.specs.Equations.{Learns, Refuses, Gives}
 
@@ -92,11 +91,13 @@ pub learns_more : (P : ℕ → List (List ℕ) → Type 0) (old mid new : Knowle
 learns_more P old mid new i first last s = (
   λ x.
       let both = (last s).0 x in
-      let before = (first s).0 both.0 in
-      (before.0, λ j lt. elim (cases_lt j i) [
-        | inl low ↦ before.1 j low
-        | inr high ↦ (let same : i ≡ j = omega arith in subst (λ (n : ℕ). P n s) same both.1)
-      ]),
+      let before = (first s).0 both.0 in (
+        before.0,
+        λ j lt. elim (cases_lt j i) [
+          | inl low ↦ before.1 j low
+          | inr high ↦ (let same : i ≡ j = omega arith in subst (λ (n : ℕ). P n s) same both.1)
+        ],
+      ),
   λ x. (last s).1 ((first s).1 (x.0, λ j lt. x.1 j (omega arith)), x.1 i (omega arith)),
 )
 

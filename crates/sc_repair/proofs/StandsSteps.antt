@@ -1,28 +1,28 @@
 -- A repairer, call by call: the history that it stands for goes on.
-use Rattle.std.proofs.Common.{◌≡◌, ℕ, ◌+◌, ◌-◌, ◌*◌, ◌<◌, ◌≤◌, ◌↔◌, Bool, true, false, List, [], ◌∷◌, ◌++◌, length, get_or, max, nat_eq, eqb, if◌then◌else◌, Option, Some, None, take, All, refl, sym, ap, ap₂, ◌∙◌, subst, arith, inl, inr}
+use Rattle.std.proofs.Common.{◌≡◌, ℕ, ◌+◌, ◌-◌, ◌*◌, ◌<◌, ◌≤◌, ◌↔◌, Bool, true, false, List, [], ◌∷◌, ◌++◌, length, get_or, max, nat_eq, eqb, if◌then◌else◌, Some, None, take, All, refl, sym, ap, ap₂, ◌∙◌, subst, arith, inl, inr}
 use Rattle.std.proofs.lemmas.Bool.{cases_lt, cond-true, cond-false, eq-eqb, ne_eqb}
 use Rattle.std.proofs.lemmas.List.{length-append, get_or_append_left, get_or_at, take-append-le, take_at}
 use Rattle.std.proofs.Math.Nat.{mul_comm, mul-sub}
-use Rattle.std.proofs.lemmas.List.Elements.{All-nil, Contains-push_cases}
+use Rattle.std.proofs.lemmas.List.Elements.{All-nil}
 use Rattle.sc_field.specs.Laws.Gf256Laws.{gf256_field, gf256_action}
 use Rattle.sc_field.specs.Gf256.{gf256_product}
 use Rattle.sc_matrix.specs.Module.{IsByte}
 use Rattle.sc_matrix.specs.Vector.{IsVector}
 use Rattle.sc_matrix.specs.Layout.{cut}
 use Rattle.sc_echelon.specs.Knowledge.{Knowledge, IsSolution, IsBytes, Forgets, nothing_known}
-use Rattle.sc_code.specs.Code.{Code, IsCode}
-use Rattle.sc_code.specs.Stream.{IsBlock, IsStream, block_at}
-use Rattle.sc_slots.specs.Taken.{Taken, HasFittingEnd, source, first_claim, same_claim, HaveFittingEnds, claimed, least_end}
+use Rattle.sc_code.specs.Code.{IsCode}
+use Rattle.sc_code.specs.Stream.{IsBlock, IsStream}
+use Rattle.sc_slots.specs.Taken.{Taken, HasFittingEnd, source, first_claim, same_claim, HaveFittingEnds, least_end}
 use Rattle.sc_slots.specs.Repair.{IsClash}
 use Rattle.sc_slots.proofs.EndLaws.{least_end-push, claimed-push_after, claimed-push_first}
 use Rattle.sc_slots.specs.Kept.{IsAfterFree, IsAfterTake, IsAfterForget}
 use Rattle.sc_slots.specs.History.{next_front, IsHistory}
 use Rattle.sc_slots.specs.Rows.{symbols_of, blocks_of, HasSymbolsIn, MeetsRows}
-use Rattle.sc_slots.proofs.HistoryLaws.{IsHistory-start, IsHistory-same, IsHistory-forget, IsHistory-free, IsHistory-lost, IsHistory-take, IsClash-iff_empty}
+use Rattle.sc_slots.proofs.HistoryLaws.{IsHistory-start, IsHistory-same, IsHistory-forget, IsHistory-free, IsHistory-take, IsClash-iff_empty}
 use Rattle.sc_slots.proofs.SymbolLaws.{after_forgetting_symbols}
 use Rattle.sc_slots.proofs.ColumnLaws.{HasSymbolsIn-any, HasSymbolsIn-blocks_of, after_adding_rows}
-use Rattle.sc_repair.specs.Repairer.{Repairer, places_for, FitsEnd}
-use Rattle.sc_repair.specs.Stands.{Stands, HasShape, HasEnd}
+use Rattle.sc_repair.specs.Repairer.{FitsEnd}
+use Rattle.sc_repair.specs.Stands.{HasEnd}
 use Rattle.sc_repair.specs.Equations.{Learns, Refuses, HasSymbols, HasParities}
 
 sub_mul : (n c k : ℕ) → (n - c) * k ≡ n * k - c * k
@@ -99,7 +99,7 @@ module _ (deadline memory : ℕ) where
       let found = HasSymbolsIn-blocks_of slot.code.k m n (IsSolution gf256_product new) some.0 (values.width ∙ cols) (subst (λ (v : ℕ). All (IsVector IsByte v) some.0) width values.entries) some.1 in
       let it = (same (blocks_of slot.code.k n some.0)).1 found in (
         IsHistory-same 0 gf256_product slot.code.k m deadline memory (taken ++ slot ∷ []) (w + 1) p (front + n) front (IsAfterTake 0 gf256_product m slot (slot.number - front) (HasSymbolsIn slot.code.k m n (IsSolution gf256_product old))) (HasSymbolsIn slot.code.k m n (IsSolution gf256_product new)) same
-        (IsHistory-take 0 gf256_product slot.code.k m deadline memory taken slot w p (front + n) front (HasSymbolsIn slot.code.k m n (IsSolution gf256_product old)) near room number lags h (blocks_of slot.code.k n some.0) it),
+            (IsHistory-take 0 gf256_product slot.code.k m deadline memory taken slot w p (front + n) front (HasSymbolsIn slot.code.k m n (IsSolution gf256_product old)) near room number lags h (blocks_of slot.code.k n some.0) it),
         λ clash. (IsClash-iff_empty 0 gf256_product slot.code.k m deadline memory taken slot w p (front + n) front (HasSymbolsIn slot.code.k m n (IsSolution gf256_product old)) room number lags h).0 clash (blocks_of slot.code.k n some.0) it,
       )
 
@@ -120,14 +120,17 @@ pub meets_rows : (k m n place : ℕ) (slot : Taken ℕ) (block parity : List ℕ
 meets_rows k m n place slot block parity old mid new ek eb ep first last symbols = (
   λ x.
       let y = (last symbols).0 x in
-      let z = (first symbols).0 y.0 in
-      (z.0, record {
-        of_block = λ i hi. z.1 i hi ∙ ap (λ (b : List (List ℕ)). get_or b i []) (sym eb);
-        of_parity = λ j hj. y.1 j hj ∙ ap (λ (b : List (List ℕ)). get_or b j []) (sym ep);
-      }),
+      let z = (first symbols).0 y.0 in (
+        z.0,
+        record {
+          of_block = λ i hi. z.1 i hi ∙ ap (λ (b : List (List ℕ)). get_or b i []) (sym eb);
+          of_parity = λ j hj. y.1 j hj ∙ ap (λ (b : List (List ℕ)). get_or b j []) (sym ep);
+        },
+      ),
   λ x. (last symbols).1 (
-      (first symbols).1 (x.0, λ i hi. x.1.of_block i hi ∙ ap (λ (b : List (List ℕ)). get_or b i []) eb),
-      λ j hj. x.1.of_parity j hj ∙ ap (λ (b : List (List ℕ)). get_or b j []) ep),
+    (first symbols).1 (x.0, λ i hi. x.1.of_block i hi ∙ ap (λ (b : List (List ℕ)). get_or b i []) eb),
+    λ j hj. x.1.of_parity j hj ∙ ap (λ (b : List (List ℕ)). get_or b j []) ep,
+  ),
 )
 
 pub refuses_block : (k m n place : ℕ) (slot : Taken ℕ) (block : List ℕ) (old : Knowledge ℕ) → slot.block ≡ cut k m block → Refuses old (HasSymbols k m n place k block)
@@ -180,8 +183,7 @@ fitting-push taken slot all last i d lt =
 pub end_after_source : (end : ℕ) (taken : List (Taken ℕ)) (slot : Taken ℕ) → slot.end ≡ 0 → end ≤ slot.number + 1 → HasEnd false end taken → HasEnd false (slot.number + 1) (taken ++ slot ∷ [])
 end_after_source end taken slot e le h =
     let l : least_end taken ≡ end = h.1 in
-    let here : (if nat_eq slot.end 0 then slot.number + 1 else 0) ≡ slot.number + 1 = cond-true (eqb slot.end 0) (slot.number + 1) 0 (eq-eqb slot.end 0 e) in
-    (
+    let here : (if nat_eq slot.end 0 then slot.number + 1 else 0) ≡ slot.number + 1 = cond-true (eqb slot.end 0) (slot.number + 1) 0 (eq-eqb slot.end 0 e) in (
       claimed-push_first taken slot h.0 ∙ cond-true (eqb slot.end 0) None (Some (slot.number + 1 - slot.end)) (eq-eqb slot.end 0 e),
       least_end-push taken slot ∙ ap (max (least_end taken)) here ∙ omega arith,
     )

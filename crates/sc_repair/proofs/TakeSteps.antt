@@ -1,5 +1,5 @@
 -- A slot that is taken: its shape, and what its equations say of the history.
-use Rattle.std.proofs.Common.{◌≡◌, ℕ, ◌+◌, ◌-◌, ◌*◌, ◌<◌, ◌≤◌, ◌↔◌, Bool, true, false, List, [], ◌∷◌, ◌++◌, length, All, max, eqb, cond, refl, sym, ap, ◌∙◌, subst, arith, inl, inr}
+use Rattle.std.proofs.Common.{◌≡◌, ℕ, ◌+◌, ◌-◌, ◌*◌, ◌<◌, ◌≤◌, Bool, true, false, List, [], ◌∷◌, ◌++◌, length, All, max, eqb, refl, sym, ap, ◌∙◌, subst, arith, inl, inr}
 use Rattle.std.proofs.lemmas.Bool.{cases_lt, cases_eq, cond-true, cond-false, eq-eqb, ne_eqb}
 use Rattle.sc_field.specs.Gf256.{gf256_product}
 use Rattle.sc_matrix.specs.Module.{IsByte}
@@ -12,10 +12,9 @@ use Rattle.sc_slots.specs.Slot.{Slot}
 use Rattle.sc_slots.specs.Taken.{Taken, AllBelow, least_end, taken_slot}
 use Rattle.std.proofs.lemmas.List.Elements.{Contains-append_right}
 use Rattle.sc_slots.specs.Repair.{IsClash}
-use Rattle.sc_slots.specs.Rows.{MeetsRows}
 use Rattle.sc_repair.specs.Repairer.{Repairer, places_for, IsSound, FitsEnd}
 use Rattle.sc_repair.specs.Stands.{Stands, HasShape, HasEnd}
-use Rattle.sc_repair.specs.Equations.{LearnsSlot, RefusesSlot, at_block, at_parity, Learns, Refuses, HasSymbols, HasParities}
+use Rattle.sc_repair.specs.Equations.{LearnsSlot, RefusesSlot, at_block, at_parity, Learns, Refuses, HasSymbols}
 use Rattle.sc_repair.proofs.StandsSteps.{meets_rows, refuses_block, refuses_parity, end_after_source, end_after_claim}
 use Rattle.sc_repair.proofs.CallSteps.{Stands-clash, Stands-taken}
 
@@ -93,6 +92,6 @@ end_after is_claimed now_claimed end now taken slot below fits of_source of_flus
           let to = of_source none in
           subst (λ (b : Bool). HasEnd b now (taken ++ slot ∷ [])) (sym to.1) (subst (λ (x : ℕ). HasEnd is_claimed x (taken ++ slot ∷ [])) (sym to.0) (go is_claimed none fits h))
     ] where
-  go : (b : Bool) → slot.end ≡ 0 → FitsEnd b end slot.number slot.end → HasEnd b end taken → HasEnd b (slot.number + 1) (taken ++ slot ∷ [])
-  go true none fit e = let some : 0 < slot.end = fit.0 in absurd (omega arith)
-  go false none fit e = let l : least_end taken ≡ end = e.1 in let le = least_end-le taken slot.number below in end_after_source end taken slot none (omega arith) e
+      go : (b : Bool) → slot.end ≡ 0 → FitsEnd b end slot.number slot.end → HasEnd b end taken → HasEnd b (slot.number + 1) (taken ++ slot ∷ [])
+      go true none fit e = let some : 0 < slot.end = fit.0 in absurd (omega arith)
+      go false none fit e = let l : least_end taken ≡ end = e.1 in let le = least_end-le taken slot.number below in end_after_source end taken slot none (omega arith) e

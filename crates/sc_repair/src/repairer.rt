@@ -245,7 +245,16 @@ impl Repairer {
         let (k, m) = (phase.k(), usize::from(self.m));
         let place = (self.passed - self.front) as usize;
         let row = self.row.as_mut_slice();
-        let fits = learn_slot(&mut self.known, row, phase, m, self.places, place, block, parity);
+        let fits = learn_slot(
+            &mut self.known,
+            row,
+            phase,
+            m,
+            self.places,
+            place,
+            block,
+            parity,
+        );
         fits
     }
 
@@ -380,12 +389,25 @@ impl Repairer {
         let end = if self.claimed { self.end } else { self.past };
         let m = usize::from(self.m);
         let block = self.block.as_mut_slice();
-        let found = find_left(&self.known, self.k, m, self.front, end, self.next, self.past, block);
+        let found = find_left(
+            &self.known,
+            self.k,
+            m,
+            self.front,
+            end,
+            self.next,
+            self.past,
+            block,
+        );
         match found {
             None => None,
             Some((slot, whole)) => {
                 self.next = slot + 1;
-                Some(if whole { Put::Block(slot) } else { Put::Missed(slot) })
+                Some(if whole {
+                    Put::Block(slot)
+                } else {
+                    Put::Missed(slot)
+                })
             }
         }
     }

@@ -1,4 +1,4 @@
-use Rattle.std.proofs.Common.{◌≡◌, ◌*◌, length, replicate}
+use Rattle.std.proofs.Common.{◌≡◌, ◌*◌, replicate}
 use Rattle.sc_repair.specs.Equations.{HasSymbols, Learns}
 use Rattle.sc_repair.proofs.equations.learn_block.Given as goal
 

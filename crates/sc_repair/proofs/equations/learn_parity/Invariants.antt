@@ -1,4 +1,4 @@
-use Rattle.std.proofs.Common.{◌≡◌, ◌*◌, length}
+use Rattle.std.proofs.Common.{◌≡◌, length}
 use Rattle.sc_repair.specs.Equations.{HasParities, Learns}
 use Rattle.sc_repair.proofs.equations.learn_parity.Given as goal
 

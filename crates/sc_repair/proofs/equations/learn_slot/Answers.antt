@@ -1,5 +1,5 @@
 use Rattle.std.proofs.Common.{◌≡◌, ℕ, true, false, sym, ◌∙◌, subst}
-use Rattle.sc_repair.specs.Equations.{Learns, Refuses, HasSymbols, HasParities, LearnsSlot, RefusesSlot, at_block, at_parity}
+use Rattle.sc_repair.specs.Equations.{Learns, Refuses, HasSymbols, HasParities, at_block, at_parity}
 use Rattle.sc_repair.proofs.equations.learn_slot.Goals as goal
 use Rattle.sc_repair.proofs.equations.learn_slot.Goals.{then-learn_block, else-learn_block}
 

@@ -1,4 +1,4 @@
-use Rattle.std.proofs.Common.{◌≡◌, ℕ, ◌*◌, ◌+◌, ◌-◌, ◌<◌, List, [], length, get_or, set, sym, ap, ◌∙◌, subst, arith, inl, inr}
+use Rattle.std.proofs.Common.{◌≡◌, ℕ, ◌*◌, ◌+◌, ◌-◌, List, [], length, get_or, set, sym, ap, ◌∙◌, subst, arith, inl, inr}
 use Rattle.std.proofs.lemmas.Bool.{cases_lt}
 use Rattle.std.proofs.lemmas.List.{get_or-set_same, get_or-set_other}
 use borrow.Rule.Slice.PartMut.{put_mid}
@@ -21,8 +21,7 @@ loop-i-preserved c =
     let count : length old ≡ k * m = c.loop-i.invariant.0 ∙ c.requires.block in
     let long : length bytes ≡ m = c.copy_from_slice.ensures.len ∙ ap length (row_part k m old i (i * m) (omega arith) c.loop-i-test.true) ∙ length-row k m old i count c.loop-i-test.true in
     let written : cut k m (put_mid (i * m) ((i * m + m) - i * m) old bytes) ≡ set (cut k m old) i bytes =
-    ap (λ (n : ℕ). cut k m (put_mid (i * m) n old bytes)) width ∙ cut-put_mid k m old i bytes count c.loop-i-test.true long in
-    (
+    ap (λ (n : ℕ). cut k m (put_mid (i * m) n old bytes)) width ∙ cut-put_mid k m old i bytes count c.loop-i-test.true long in (
       length-put_mid (i * m) ((i * m + m) - i * m) old bytes (omega arith) (long ∙ sym width) ∙ c.loop-i.invariant.0,
       λ j lt. elim (cases_lt j i) [
         | inl low ↦

@@ -1,4 +1,4 @@
-use Rattle.std.proofs.Common.{◌≡◌, ℕ, ◌*◌, ◌+◌, ◌-◌, ◌<◌, length, get_or, leb, cond, sym, ap, ◌∙◌, subst, arith, inl, inr}
+use Rattle.std.proofs.Common.{◌≡◌, ℕ, ◌*◌, ◌+◌, ◌-◌, get_or, leb, cond, ◌∙◌, subst, arith, inl, inr}
 use Rattle.std.proofs.lemmas.Bool.{cases_lt}
 use Rattle.sc_matrix.proofs.LayoutLaws.{row_within}
 use Rattle.sc_code.specs.Code.{coefficient}
@@ -10,8 +10,7 @@ loop-p-preserved c =
     let code = c.args.code.now in
     let k = code.k in
     let p = c.loop-p.p in
-    let place = c.args.place in
-    (
+    let place = c.args.place in (
       c.write_place.ensures.row ∙ c.loop-p.invariant.0,
       λ q s lt hs. elim (cases_lt q p) [
         | inl low ↦

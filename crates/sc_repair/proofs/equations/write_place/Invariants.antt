@@ -1,4 +1,4 @@
-use Rattle.std.proofs.Common.{◌≡◌, ◌+◌, ◌-◌, ◌*◌, ◌<◌, ℕ, length, get_or, leb, cond}
+use Rattle.std.proofs.Common.{◌≡◌, ◌+◌, ◌-◌, ◌<◌, ℕ, length, get_or, leb, cond}
 use Rattle.sc_code.specs.Code.{coefficient}
 use Rattle.sc_repair.proofs.equations.write_place.Given as goal
 

@@ -1,7 +1,4 @@
-use Rattle.std.proofs.Common.{◌≡◌, ℕ, ◌+◌, ◌-◌, ◌*◌, List, sym, ap, ◌∙◌, subst, arith}
-use Rattle.sc_field.specs.Gf256.{gf256_product}
-use Rattle.sc_echelon.specs.Knowledge.{Forgets}
-use Rattle.sc_slots.specs.Taken.{Taken}
+use Rattle.std.proofs.Common.{◌≡◌, ℕ, ◌+◌, ◌-◌, sym, ap, ◌∙◌, subst, arith}
 use Rattle.sc_repair.specs.Repairer.{Repairer, kept_by}
 use Rattle.sc_repair.specs.Stands.{Stands}
 use Rattle.sc_repair.proofs.CallSteps.{Stands-given_up}

@@ -1,4 +1,4 @@
-use Rattle.std.proofs.Common.{◌≡◌, ℕ, ◌-◌, List, sym, ap, ◌∙◌, subst}
+use Rattle.std.proofs.Common.{◌≡◌, ℕ, ◌-◌, subst}
 use Rattle.sc_repair.specs.Repairer.{Repairer, places_for, kept_by}
 use Rattle.sc_repair.specs.Equations.{RefusesSlot}
 use Rattle.sc_repair.proofs.repairer.Repairer.learn.Goals as goal

@@ -1,4 +1,4 @@
-use Rattle.std.proofs.Common.{◌≡◌, ℕ, ◌+◌, sym, ap, ◌∙◌, subst, arith}
+use Rattle.std.proofs.Common.{◌≡◌, sym, ap, ◌∙◌, subst, arith}
 use Rattle.sc_repair.specs.Repairer.{Repairer, kept_by}
 use Rattle.sc_repair.specs.Stands.{Stands}
 use Rattle.sc_repair.proofs.CallSteps.{Stands-lost}

@@ -1,5 +1,5 @@
-use Rattle.std.proofs.Common.{◌≡◌, ℕ, ◌*◌, ◌+◌, max, ap, ap₂, ◌∙◌, subst, arith}
-use Rattle.sc_echelon.specs.Knowledge.{Knowledge, nothing_known}
+use Rattle.std.proofs.Common.{◌≡◌, ℕ, ◌*◌, ◌+◌, max, ap, ap₂, ◌∙◌, arith}
+use Rattle.sc_echelon.specs.Knowledge.{nothing_known}
 use Rattle.sc_repair.proofs.CallSteps.{Stands-start}
 use Rattle.sc_repair.proofs.EquationSteps.{few_bytes}
 use Rattle.sc_repair.proofs.repairer.Repairer.start.Goals as goal

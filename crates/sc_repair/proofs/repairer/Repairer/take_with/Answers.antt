@@ -1,10 +1,10 @@
-use Rattle.std.proofs.Common.{◌≡◌, ℕ, ◌+◌, ◌*◌, ◌<◌, List, [], ◌∷◌, ◌++◌, sym, ap, ap₂, ◌∙◌, subst, arith}
+use Rattle.std.proofs.Common.{ℕ, ◌+◌, ◌*◌, ◌<◌, [], ◌∷◌, ◌++◌, sym, ap, ap₂, ◌∙◌, subst, arith}
 use Rattle.sc_field.specs.Gf256.{gf256_product}
 use Rattle.sc_slots.specs.Answers.{slot_in}
-use Rattle.sc_slots.specs.Taken.{Taken, taken_slot}
+use Rattle.sc_slots.specs.Taken.{taken_slot}
 use Rattle.sc_slots.specs.Repair.{IsClash}
-use Rattle.sc_repair.specs.Repairer.{Repairer, FitsEnd, IsSound, places_for}
-use Rattle.sc_repair.specs.Stands.{Stands, HasEnd}
+use Rattle.sc_repair.specs.Repairer.{Repairer, FitsEnd, places_for}
+use Rattle.sc_repair.specs.Stands.{Stands}
 use Rattle.sc_repair.proofs.TakeSteps.{clash_where_none, taken_where_learned, end_after}
 use Rattle.sc_repair.proofs.repairer.Repairer.take_with.Goals as goal
 
@@ -68,8 +68,8 @@ returns-clause-takes c taken h =
     (λ none. (let to = c.note_taken.ensures.source none in (to.0, to.1 ∙ ap (λ (x : Repairer). x.is_claimed) told))) c.note_taken.ensures.flush)
     now in (
       subst (λ (x : Repairer). Stands x (taken ++ taken_slot code slot ∷ []))
-      (ap₂ (λ (p q : ℕ). record s { passed = p; past = q; is_claimed = n.is_claimed; end = n.end; known = l.known }) (ap (λ (p : ℕ). p + 1) (sym learned_passed) ∙ sym c.note_taken.ensures.passed) (ap (λ (p : ℕ). p + 1) (sym learned_passed) ∙ sym c.note_taken.ensures.past)
-      ∙ ap (λ (x : Repairer). record x { passed = n.passed; past = n.past; end = n.end; is_claimed = n.is_claimed }) (sym told) ∙ sym noted)
-      both.0,
+          (ap₂ (λ (p q : ℕ). record s { passed = p; past = q; is_claimed = n.is_claimed; end = n.end; known = l.known }) (ap (λ (p : ℕ). p + 1) (sym learned_passed) ∙ sym c.note_taken.ensures.passed) (ap (λ (p : ℕ). p + 1) (sym learned_passed) ∙ sym c.note_taken.ensures.past)
+          ∙ ap (λ (x : Repairer). record x { passed = n.passed; past = n.past; end = n.end; is_claimed = n.is_claimed }) (sym told) ∙ sym noted)
+          both.0,
       subst (λ (x : Repairer). IsClash 0 gf256_product x.k x.m (taken ++ taken_slot code slot ∷ []) x.passed → ⊥) same both.1,
     )
