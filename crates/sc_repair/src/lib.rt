@@ -5,3 +5,6 @@ mod equations;
 mod repairer;
 
 pub use repairer::{EndState, MAX_SLOTS, Put, Repairer, TakeFault, Unfit};
+
+#[cfg(test)]
+mod tests;
