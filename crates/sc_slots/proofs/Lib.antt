@@ -16,3 +16,17 @@ pub mod TakeSteps
 pub mod FlushSteps
 pub mod EndSteps
 pub mod CaptureSteps
+pub mod FitLaws
+pub mod SettledLaws
+pub mod TextLaws
+pub mod KeptLaws
+pub mod HistoryLaws
+pub mod LeftLaws
+pub mod SentLaws
+pub mod EndLaws
+pub mod XorSteps
+pub mod RowLaws
+pub mod SymbolLaws
+pub mod ColumnLaws
+pub mod PromptLaws
+pub mod Worked

@@ -5,3 +5,11 @@ pub mod Protected
 pub mod ProtectedLaws
 pub mod ProtectSteps
 pub mod Slot
+pub mod Taken
+pub mod Repair
+pub mod Text
+pub mod Kept
+pub mod Sent
+pub mod History
+pub mod Rows
+pub mod Prompt

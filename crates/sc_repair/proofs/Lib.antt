@@ -1,0 +1,4 @@
+pub mod EquationSteps
+pub mod StandsSteps
+pub mod CallSteps
+pub mod TakeSteps

@@ -1,0 +1,5 @@
+pub mod Repairer
+pub mod Stands
+pub mod Equations
+pub mod Fit
+pub mod Takes

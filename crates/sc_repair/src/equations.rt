@@ -1,0 +1,236 @@
+//! The equations of a taken slot: the symbols of its block, and its parity as sums over the kept blocks.
+ghost use Rattle.std.specs.Prelude.{◌≡◌, ◌+◌, ◌-◌, ◌*◌, ◌<◌, ◌≤◌, ℕ, List, true, false, length, replicate, map, slice_index_or, nat_le, if◌then◌else◌};
+ghost use Rattle.std.specs.List.{range_with_len};
+ghost use Rattle.sc_field.specs.Gf256.{gf256_product};
+ghost use Rattle.sc_code.specs.Code.{Code as CodeOf, IsCode, coefficient};
+ghost use Rattle.sc_echelon.specs.Knowledge.{IsSolution};
+ghost use Rattle.sc_slots.specs.Rows.{symbol_row, parity_row};
+ghost use Rattle.sc_repair.specs.Equations.{AreOpenFrom, FindsLeft, Gives, HasParities, HasSymbols, IsBlockAt, IsOpenPlace, Learns, LearnsSlot, Refuses, RefusesSlot};
+
+use sc_code::ByteCode;
+use sc_echelon::{Added, Knowledge};
+use sc_field::{Field, Gf256};
+
+// Adds an equation. False exactly where no solution meets it; then nothing changes.
+fn learn_row(known: &mut Knowledge<Gf256>, row: &[Gf256], right: &[u8]) -> bool
+    requires coeffs { length row.now ≡ known.old.cols }
+    requires right { length right.now ≡ known.old.width }
+    ensures cols { known.new.cols ≡ known.old.cols }
+    ensures width { known.new.width ≡ known.old.width }
+    ensures learns { result ≡ true → Learns known.old known.new (Gives known.old.width row.now right.now) }
+    ensures refuses { result ≡ false → Refuses known.old (Gives known.old.width row.now right.now) }
+{
+    match known.add_row(row, right) {
+        Added::New => true,
+        Added::Known => true,
+        Added::Clash => false,
+    }
+}
+
+// Makes all coefficients zero.
+fn clear_row(row: &mut [Gf256])
+    ensures { row.new ≡ replicate (length row.old) 0 }
+{
+    for c in 0..row.len() {
+        row[c] = Gf256::zero();
+    }
+}
+
+// Adds the symbols of the block at a place of `places`. False where some symbol contradicts what is known.
+pub(crate) fn learn_block(
+    known: &mut Knowledge<Gf256>,
+    row: &mut [Gf256],
+    k: usize,
+    m: usize,
+    places: usize,
+    place: usize,
+    block: &[u8],
+) -> bool
+    requires symbols { k ≤ 64 }
+    requires small { places ≤ 105 }
+    requires place { place < places }
+    requires cols { known.old.cols ≡ places * k }
+    requires width { known.old.width ≡ m }
+    requires row { length row.old ≡ places * k }
+    requires block { length block.now ≡ k * m }
+    requires bytes { k * m ≤ 65503 }
+    ensures cols { known.new.cols ≡ known.old.cols }
+    ensures width { known.new.width ≡ known.old.width }
+    ensures row { length row.new ≡ length row.old }
+    ensures learns { result ≡ true → Learns known.old known.new (HasSymbols k m places place k block.now) }
+    ensures refuses { result ≡ false → Refuses known.old (HasSymbols k m places place k block.now) }
+{
+    clear_row(row);
+    for i in 0..k {
+        let at = place * k + i;
+        row[at] = Gf256::one();
+        let learned = learn_row(known, row, &block[i * m..i * m + m]);
+        row[at] = Gf256::zero();
+        if !learned {
+            return false;
+        }
+    }
+    true
+}
+
+// What symbol `s` of the block at place `p` gives to parity symbol `j` of the slot at a place.
+fn entry_at(code: &ByteCode, place: usize, j: usize, p: usize, s: usize) -> Gf256
+    requires parity { j < code.now.r }
+    requires symbol { s < code.now.k }
+    ensures { result ≡ (if nat_le p place then coefficient 0 code.now (place - p) s j else 0) }
+{
+    if p > place || place - p > code.memory() {
+        return Gf256::zero();
+    }
+    code.coefficient(place - p, s, j)
+}
+
+// Writes what the block at place `p` gives to parity symbol `j` of the slot at a place. The coefficients before it stay.
+fn write_place(row: &mut [Gf256], code: &ByteCode, place: usize, j: usize, p: usize)
+    requires parity { j < code.now.r }
+    requires room { p * code.now.k + code.now.k ≤ length row.old }
+    ensures row { length row.new ≡ length row.old }
+    ensures before { (c : ℕ) → c < p * code.now.k → slice_index_or row.new c 0 ≡ slice_index_or row.old c 0 }
+    ensures here { (s : ℕ) → s < code.now.k → slice_index_or row.new (p * code.now.k + s) 0 ≡ (if nat_le p place then coefficient 0 code.now (place - p) s j else 0) }
+{
+    let first = p * code.k();
+    for s in 0..code.k() {
+        row[first + s] = entry_at(code, place, j, p, s);
+    }
+}
+
+// Writes the coefficients of parity symbol `j` of the slot at a place of `places`.
+fn write_parity_row(row: &mut [Gf256], code: &ByteCode, places: usize, place: usize, j: usize)
+    requires parity { j < code.now.r }
+    requires row { length row.old ≡ places * code.now.k }
+    ensures { row.new ≡ parity_row 0 1 code.now places place j }
+{
+    for p in 0..places {
+        write_place(row, code, place, j, p);
+    }
+}
+
+// Adds the parity of the slot at a place of `places`. False where some symbol of it contradicts what is known.
+pub(crate) fn learn_parity(
+    known: &mut Knowledge<Gf256>,
+    row: &mut [Gf256],
+    code: &ByteCode,
+    m: usize,
+    places: usize,
+    place: usize,
+    parity: &[u8],
+) -> bool
+    requires place { place < places }
+    requires cols { known.old.cols ≡ places * code.now.k }
+    requires width { known.old.width ≡ m }
+    requires row { length row.old ≡ places * code.now.k }
+    requires parity { length parity.now ≡ code.now.r * m }
+    ensures cols { known.new.cols ≡ known.old.cols }
+    ensures width { known.new.width ≡ known.old.width }
+    ensures row { length row.new ≡ length row.old }
+    ensures learns { result ≡ true → Learns known.old known.new (HasParities code.now m places place code.now.r parity.now) }
+    ensures refuses { result ≡ false → Refuses known.old (HasParities code.now m places place code.now.r parity.now) }
+{
+    for j in 0..code.r() {
+        write_parity_row(row, code, places, place, j);
+        if !learn_row(known, row, &parity[j * m..j * m + m]) {
+            return false;
+        }
+    }
+    true
+}
+
+// Writes the block at a place. False exactly where two solutions differ in a symbol of it.
+pub(crate) fn read_block(
+    known: &Knowledge<Gf256>,
+    k: usize,
+    m: usize,
+    place: usize,
+    block: &mut [u8],
+) -> bool
+    requires symbols { k ≤ 64 }
+    requires place { place < 105 }
+    requires bytes { k * m ≤ 65503 }
+    requires cols { place * k + k ≤ known.now.cols }
+    requires width { known.now.width ≡ m }
+    requires block { length block.old ≡ k * m }
+    ensures block { length block.new ≡ length block.old }
+    ensures known { result ≡ true → IsBlockAt known.now k m block.new place }
+    ensures unknown { result ≡ false → IsOpenPlace known.now k place }
+{
+    known.known();
+    for i in 0..k {
+        match known.value_of(place * k + i) {
+            None => return false,
+            Some(bytes) => block[i * m..i * m + m].copy_from_slice(bytes),
+        }
+    }
+    true
+}
+
+// Adds the equations of the slot at a place of `places`. False where no solution meets all of them; then some may have been
+// added.
+pub(crate) fn learn_slot(
+    known: &mut Knowledge<Gf256>,
+    row: &mut [Gf256],
+    code: &ByteCode,
+    m: usize,
+    places: usize,
+    place: usize,
+    block: &[u8],
+    parity: &[u8],
+) -> bool
+    requires small { places ≤ 105 }
+    requires place { place < places }
+    requires bytes { code.now.k * m ≤ 65503 }
+    requires cols { known.old.cols ≡ places * code.now.k }
+    requires width { known.old.width ≡ m }
+    requires row { length row.old ≡ places * code.now.k }
+    requires block { length block.now ≡ code.now.k * m }
+    requires parity { length parity.now ≡ code.now.r * m }
+    ensures cols { known.new.cols ≡ known.old.cols }
+    ensures width { known.new.width ≡ known.old.width }
+    ensures row { length row.new ≡ length row.old }
+    ensures code { IsCode (λ x. x < 256) code.now }
+    ensures learns { result ≡ true → LearnsSlot known.old known.new code.now m places place block.now parity.now }
+    ensures refuses { result ≡ false → RefusesSlot known.old code.now m places place block.now parity.now }
+    ensures solvable { (symbols : List (List ℕ)) × IsSolution gf256_product known.new symbols }
+{
+    let fits = learn_block(known, row, code.k(), m, places, place, block)
+        && learn_parity(known, row, code, m, places, place, parity);
+    known.known();
+    fits
+}
+
+// Of the slots from `from` up to `to`, the first whose block is known, which is written, or that lies below the end.
+pub(crate) fn find_left(
+    known: &Knowledge<Gf256>,
+    k: usize,
+    m: usize,
+    front: u32,
+    end: u32,
+    from: u32,
+    to: u32,
+    block: &mut [u8],
+) -> Option<(u32, bool)>
+    requires symbols { k ≤ 64 }
+    requires front { front ≤ from }
+    requires places { to < front + 105 }
+    requires bytes { k * m ≤ 65503 }
+    requires cols { (to - front) * k ≤ known.now.cols }
+    requires width { known.now.width ≡ m }
+    requires block { length block.old ≡ k * m }
+    ensures block { length block.new ≡ length block.old }
+    ensures found { FindsLeft known.now k m front end from to block.new result }
+{
+    for slot in from..to {
+        let place = (slot - front) as usize;
+        if read_block(known, k, m, place, block) {
+            return Some((slot, true));
+        }
+        if slot < end {
+            return Some((slot, false));
+        }
+    }
+    None
+}

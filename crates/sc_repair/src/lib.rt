@@ -1,0 +1,10 @@
+//! The repairer: what the slots of a protected stream that arrived determine of its blocks, given out in time.
+#![tactic(auto)]
+
+mod equations;
+mod repairer;
+
+pub use repairer::{EndState, MAX_SLOTS, Put, Repairer, TakeFault, Unfit};
+
+#[cfg(test)]
+mod tests;
