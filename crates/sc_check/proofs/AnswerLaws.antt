@@ -1,5 +1,5 @@
 -- The first stream that shows that a class isn't decided.
-use Rattle.std.proofs.Common.{◌≡◌, ◌≢◌, ◌⊎◌, ◌↔◌, inl, inr, ℕ, zero as naught, suc, ◌+◌, ◌*◌, ◌<◌, ◌≤◌, ◌&&◌, ◌||◌, ◌==◌, Bool, true, false, cond, Option, Some, None, List, [], ◌∷◌, length, get_or, replicate, bit_xor, map, take, drop, ◌++◌, ap₂, refl, sym, ap, ◌∙◌, subst, arith}
+use Rattle.std.proofs.Common.{◌≡◌, ◌≢◌, ◌⊎◌, ◌↔◌, inl, inr, ℕ, zero as naught, suc, ◌+◌, ◌*◌, ◌<◌, ◌||◌, ◌==◌, Bool, true, false, Option, Some, None, List, [], ◌∷◌, length, get_or, replicate, bit_xor, map, take, drop, ◌++◌, ap₂, refl, sym, ap, ◌∙◌, subst, arith}
 use Rattle.std.specs.Prelude.{All, not}
 use Rattle.std.specs.List.{list_all, range_with_len}
 use Rattle.std.specs.Option.{option_map}
@@ -17,7 +17,7 @@ use Rattle.sc_matrix.specs.Vector.{IsVector}
 use Rattle.sc_echelon.specs.Kernel.{IsBefore}
 use Rattle.sc_field.specs.Gf256.{gf256_product}
 use Rattle.sc_matrix.specs.Layout.{cut}
-use Rattle.sc_matrix.proofs.LayoutLaws.{length-cut, get_or-cut, vectors-cut}
+use Rattle.sc_matrix.proofs.LayoutLaws.{length-cut, vectors-cut}
 use Rattle.sc_channel.specs.Channel.{ChannelNumbers, IsChannel, IsOrdered}
 use Rattle.sc_channel.specs.Classes.{classes_of, class_count, IsClass}
 use Rattle.sc_channel.proofs.ClassLaws.{All-classes, IsClass-at, length-classes_of, IsSet-class}

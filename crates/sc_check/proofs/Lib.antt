@@ -1,3 +1,4 @@
 pub mod FailingSteps
+pub mod WalkSteps
 pub mod VerdictSteps
 pub mod AnswerLaws

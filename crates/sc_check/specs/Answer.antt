@@ -1,6 +1,6 @@
 -- What a check answers, as a function of a code over GF(256) and of the classes: the first class that isn't decided, and the
 -- first stream that shows it. A stream is a list of blocks, each a list of the numbers of its symbols.
-use Rattle.std.specs.Prelude.{◌≡◌, ℕ, zero as naught, suc, ◌*◌, ◌==◌, ◌&&◌, ◌||◌, Bool, true, List, [], ◌∷◌, length, Option, Some, None, slice_index_or, bit_xor, not, if◌then◌else◌}
+use Rattle.std.specs.Prelude.{ℕ, suc, ◌*◌, ◌==◌, ◌&&◌, ◌||◌, Bool, true, List, [], ◌∷◌, length, Option, Some, None, slice_index_or, bit_xor, not}
 use Rattle.std.specs.List.{list_all, range_with_len}
 use Rattle.std.specs.Option.{option_map}
 use Rattle.sc_channel.specs.Channel.{ChannelNumbers}

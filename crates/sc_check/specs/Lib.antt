@@ -1,3 +1,4 @@
 pub mod Failing
+pub mod Walk
 pub mod Verdict
 pub mod Answer

@@ -5,6 +5,7 @@ mod failing;
 mod gate;
 mod laws;
 mod verdict;
+mod walk;
 
 pub use failing::{MAX_WORKERS, first_failing};
 pub use gate::{Gate, NoGate};
