@@ -1,7 +1,7 @@
 -- The classes that begin with the same flags: those that go on with a lost slot, and those that go on with a kept one.
-use Rattle.std.proofs.Common.{◌≡◌, ℕ, zero as none, suc, ◌+◌, ◌-◌, ◌*◌, ◌/◌, ◌<◌, ◌≤◌, Bool, true, false, List, [], ◌∷◌, ◌++◌, length, get_or, take, set, Option, Some, None, min, max, Result, Ok, Err, IfOk, IsTrue, ◌↔◌, refl, sym, ap, ◌∙◌, subst, arith, inl, inr}
+use Rattle.std.proofs.Common.{◌≡◌, ℕ, zero as none, suc, ◌+◌, ◌-◌, ◌*◌, ◌/◌, ◌<◌, ◌≤◌, Bool, true, false, List, [], ◌∷◌, ◌++◌, length, get_or, map, take, set, Option, Some, None, min, max, Result, Ok, Err, IfOk, IsTrue, ◌↔◌, refl, sym, ap, ap₂, ◌∙◌, subst, arith, inl, inr}
 use Rattle.std.proofs.lemmas.Bool.{cases_lt, false≢true}
-use Rattle.std.proofs.lemmas.List.{append_assoc, append-nil, take_all, take_more, get_or-map, get_or_default, get_or_append_left, take-set, length-append}
+use Rattle.std.proofs.lemmas.List.{append_assoc, append-nil, take_all, take_more, get_or-map, get_or_default, get_or_append_left, take-set, length-take-le, length-append}
 use Rattle.std.proofs.Math.Nat.{zero-div}
 use Rattle.std.specs.Option.{is_some}
 use Rattle.sc_field.specs.Gf256.{gf256_product}
@@ -17,6 +17,14 @@ use Rattle.sc_code.proofs.MeetsLaws.{DecidesColumns-from_decided, IsKept-in_rang
 use Rattle.sc_code.proofs.ElementLaws.{decided_from_DecidesColumns}
 use Rattle.sc_check.specs.Failing.{class_at, DecidesAt, IsFirstIn, FirstIn}
 use Rattle.sc_check.specs.Walk.{IsFrontOf}
+use Rattle.std.specs.List.{range_with_len}
+use Rattle.std.proofs.lemmas.Nat.{div-mul-add, mod-mul-add, mul-add-lt}
+use Rattle.std.proofs.lemmas.List.FromFn.{get_or-map-range_with_len}
+use Rattle.sc_matrix.specs.Module.{IsByte}
+use Rattle.sc_matrix.specs.Matrix.{Matrix, IsMatrix, entry, row, row_count}
+use Rattle.sc_code.specs.Code.{IsCode}
+use Rattle.sc_check.specs.Span.{image, unit_stream, unit_image, IsSpan, IsCleared, AreUnitImages}
+use Rattle.sc_check.proofs.SpanSteps.{map_range-same, IsSpan-start, IsSpan-lost, IsSpan-kept, decides-span}
 
 -- ---- the lists for m places of which n are set
 -- how many of them have the first flag set
@@ -198,17 +206,6 @@ fails-last code channel flags done left first ways from to front long all low hi
       earlier = λ i le lt. absurd (omega arith);
     }
 
-pub known-last : {E : Type 0} (code : Code ℕ) (flags : List Bool) (done : ℕ) (r : Result Bool E) → IfOk r (λ known. IsTrue known ↔ IsDecided 0 gf256_product code (take done flags))
-    → IfOk r (λ known. done ≡ length flags → IsDecided 0 gf256_product code flags → IsTrue known)
-known-last code flags done (Err e) told = told
-known-last code flags done (Ok known) told = λ all decided. told.1 (subst (IsDecided 0 gf256_product code) (sym (take_all done flags (omega arith))) decided)
-
-pub fails-told : (code : Code ℕ) (channel : ChannelNumbers) (flags : List Bool) (done left first ways from to : ℕ) (known : Bool) → IsFrontOf channel flags done left first ways → length flags ≡ channel.t + 1 → done ≡ length flags
-    → first ≤ from → to ≤ first + ways → from < to → (done ≡ length flags → IsDecided 0 gf256_product code flags → IsTrue known) → known ≡ false → IsFirstIn code channel from to from
-fails-told code channel flags done left first ways from to true front long all low high some told not = absurd (cc)
-fails-told code channel flags done left first ways from to false front long all low high some told not =
-    fails-last code channel flags done left first ways from to front long all low high some (λ decided. absurd (false≢true (told all decided)))
-
 -- ---- the classes of a front: first those that lose the next slot
 pub FirstIn-lost : (code : Code ℕ) (channel : ChannelNumbers) (from to middle index : ℕ) → IsFirstIn code channel from (min to middle) index → IsFirstIn code channel from to index
 FirstIn-lost code channel from to middle index first =
@@ -253,3 +250,40 @@ kept_flags flags new done next flag e same =
     ∙ ap (λ (n : ℕ). take done (take n (set flags done flag))) more
     ∙ take_twice done (set flags done flag)
     ∙ take-set flags done flag
+
+-- ---- what is open at a front
+pub IsSpan-next_lost : (code : Code ℕ) (slots : ℕ) (flags : List Bool) (done : ℕ) (old new images : Matrix ℕ) → IsCode IsByte code → length flags ≡ slots → IsMatrix IsByte new → done < length flags → get_or flags done false ≡ true → AreUnitImages code slots images
+    → IsSpan code slots (take done flags) old → new.cols ≡ old.cols → new.rows ≡ old.rows ++ map (λ p. row images (done * code.k + p)) (range_with_len 0 code.k) → IsSpan code slots (take (done + 1) flags) new
+IsSpan-next_lost code slots flags done old new images hc long hm lt lost units span cols rows =
+    let here : length (take done flags) ≡ done = length-take-le done flags (omega arith) in
+    let unit : (p : ℕ) → p < code.k → row images (done * code.k + p) ≡ image code slots (unit_stream (length (take done flags)) p) = λ p hp.
+    ap (λ (rs : List (List ℕ)). get_or rs (done * code.k + p) []) units.rows
+    ∙ get_or-map-range_with_len (unit_image code slots) 0 (slots * code.k) (done * code.k + p) (done * code.k + p) [] (omega (arith, mul-add-lt done code.k p slots (omega arith) hp)) (omega arith)
+    ∙ ap₂ (λ (a b : ℕ). image code slots (unit_stream a b)) (div-mul-add done code.k p hp) (mod-mul-add done code.k p hp)
+    ∙ ap (λ (s : ℕ). image code slots (unit_stream s p)) (sym here) in
+    subst (λ (xs : List Bool). IsSpan code slots xs new) (ap (λ (f : Bool). take done flags ++ f ∷ []) (sym lost) ∙ sym (take_more flags done false lt))
+    (IsSpan-lost code slots hc (take done flags) old new hm span cols (rows ∙ ap (λ (us : List (List ℕ)). old.rows ++ us) (map_range-same _ _ code.k unit)))
+
+pub IsSpan-next_kept : (code : Code ℕ) (slots : ℕ) (flags : List Bool) (done : ℕ) (old new : Matrix ℕ) → IsCode IsByte code → length flags ≡ slots → IsMatrix IsByte new → done < length flags → get_or flags done true ≡ false → IsSpan code slots (take done flags) old
+    → IsCleared old new (done * code.r) (done * code.r + code.r) → IsSpan code slots (take (done + 1) flags) new
+IsSpan-next_kept code slots flags done old new hc long hm lt kept span cleared =
+    let here : length (take done flags) ≡ done = length-take-le done flags (omega arith) in
+    subst (λ (xs : List Bool). IsSpan code slots xs new) (ap (λ (f : Bool). take done flags ++ f ∷ []) (sym kept) ∙ sym (take_more flags done true lt))
+    (IsSpan-kept code slots hc (take done flags) old new (omega arith) hm span (subst (λ (s : ℕ). IsCleared old new (s * code.r) (s * code.r + code.r)) (sym here) cleared))
+
+pub known-span : (code : Code ℕ) (slots : ℕ) (flags : List Bool) (m : Matrix ℕ) (known : Bool) → IsCode IsByte code → IsMatrix IsByte m → 0 < length flags → IsSpan code slots flags m
+    → (IsTrue known ↔ ((k c : ℕ) → k < row_count m → slots * code.r ≤ c → c < m.cols → entry 0 m k c ≡ 0)) → IsTrue known ↔ IsDecided 0 gf256_product code flags
+known-span code slots flags m known hc hm some span told =
+    let law = decides-span code slots hc flags m hm some span in (
+      λ is. law.0 (λ k i h hi. told.0 is k (slots * code.r + i) h (omega arith) (omega (arith, span.cols))),
+      λ decided.
+          told.1 (λ k c h low high.
+          let place : slots * code.r + (c - slots * code.r) ≡ c = omega arith in
+          ap (λ (n : ℕ). entry 0 m k n) (sym place) ∙ law.1 decided k (c - slots * code.r) h (omega (arith, span.cols))),
+    )
+
+pub fails-known : (code : Code ℕ) (channel : ChannelNumbers) (flags : List Bool) (done left first ways from to : ℕ) (known : Bool) → IsFrontOf channel flags done left first ways → length flags ≡ channel.t + 1 → done ≡ length flags
+    → first ≤ from → to ≤ first + ways → from < to → IsTrue known ↔ IsDecided 0 gf256_product code (take done flags) → known ≡ false → IsFirstIn code channel from to from
+fails-known code channel flags done left first ways from to known front long all low high some told not =
+    fails-last code channel flags done left first ways from to front long all low high some (λ decided.
+    false≢true (sym not ∙ told.1 (subst (IsDecided 0 gf256_product code) (sym (take_all done flags (omega arith))) decided)))

@@ -4,6 +4,7 @@
 mod failing;
 mod gate;
 mod laws;
+mod span;
 mod verdict;
 mod walk;
 

@@ -1,5 +1,6 @@
 //! The walk over the classes behind the first: depth first over the flags that classes begin with, lost before kept, which is the
-//! order of the classes. Where the slots so far tell block 0, all classes that begin so are passed over.
+//! order of the classes. Where the slots so far tell block 0, all classes that begin so are passed over. What the slots so far leave
+//! open is kept by vectors that span it, so that classes share the work of the slots that they begin with.
 
 ghost use Rattle.std.specs.Prelude.{◌≡◌, ◌↔◌, ◌<◌, ◌≤◌, ◌+◌, ◌-◌, ◌*◌, ◌/◌, length, take, slice_index_or, true, false, IsTrue, IfOk, MatchOption};
 ghost use Rattle.sc_field.specs.Gf256.{gf256_product};
@@ -8,10 +9,15 @@ ghost use Rattle.sc_channel.specs.Flags.{IsSet};
 ghost use Rattle.sc_channel.specs.Classes.{class_count};
 ghost use Rattle.sc_code.specs.Determined.{IsDecided};
 ghost use Rattle.sc_check.specs.Failing.{FirstIn};
+ghost use Rattle.sc_matrix.specs.Matrix.{row_count};
 ghost use Rattle.sc_check.specs.Walk.{IsFrontOf};
+ghost use Rattle.sc_check.specs.Span.{IsSpan, AreUnitImages};
 
+use crate::span::{are_zero_from, clear_columns, unit_images, with_units};
 use sc_channel::Classes;
 use sc_code::ByteCode;
+use sc_field::Gf256;
+use sc_matrix::Matrix;
 use sc_outside::NoMemory;
 use sc_window::decides;
 use std::alloc::Global;
@@ -41,9 +47,43 @@ pub(crate) fn first_behind_burst(
     requires room { length flags.old ≡ classes.now.t + 1 }
     ensures { IfOk result (FirstIn code.now classes.now from to) }
 {
+    let _count = classes.count();
     flags[0] = true;
     let front = all_behind_burst(classes, flags);
-    first_among(alloc, code, classes, flags, front, from, to)
+    let images = unit_images(alloc, code, flags.len())?;
+    let mut vectors = open_at_first(alloc, code, classes, &images, flags)?;
+    first_among(
+        alloc,
+        code,
+        classes,
+        &images,
+        flags,
+        front,
+        &mut vectors,
+        from,
+        to,
+    )
+}
+
+// What is open once slot 0 is lost.
+fn open_at_first(
+    alloc: Global,
+    code: &ByteCode,
+    classes: &Classes,
+    images: &Matrix<Gf256>,
+    flags: &[bool],
+) -> Result<Matrix<Gf256>, NoMemory>
+    requires room { length flags.now ≡ classes.now.t + 1 }
+    requires set { IsSet flags.now 0 }
+    requires some { 0 < length flags.now }
+    requires units { AreUnitImages code.now (classes.now.t + 1) images.now }
+    ensures span { IfOk result (λ m. IsSpan code.now (classes.now.t + 1) (take 1 flags.now) m) }
+    ensures rows { IfOk result (λ m. row_count m ≤ 64) }
+{
+    let _count = classes.count();
+    let r = code.r();
+    let none = Matrix::with_capacity(alloc, 0, flags.len() * r + code.k())?;
+    open_lost(alloc, code, classes, images, flags, 0, &none)
 }
 
 // All classes behind the first: flag 0 is set.
@@ -52,6 +92,7 @@ fn all_behind_burst(classes: &Classes, flags: &[bool]) -> Front
     requires set { IsSet flags.now 0 }
     ensures front { IsFrontOf classes.now flags.now result.done result.left result.first result.ways }
     ensures few { result.left ≤ 40 }
+    ensures done { result.done ≡ 1 }
     ensures first { result.first ≡ 1 }
     ensures all { result.first + result.ways ≡ class_count classes.now }
 {
@@ -69,13 +110,18 @@ fn first_among(
     alloc: Global,
     code: &ByteCode,
     classes: &Classes,
+    images: &Matrix<Gf256>,
     flags: &mut [bool],
     front: Front,
+    vectors: &mut Matrix<Gf256>,
     from: u32,
     to: u32,
 ) -> Result<Option<u32>, NoMemory>
     requires room { length flags.old ≡ classes.now.t + 1 }
     requires front { IsFrontOf classes.now flags.old front.done front.left front.first front.ways }
+    requires units { AreUnitImages code.now (classes.now.t + 1) images.now }
+    requires span { IsSpan code.now (classes.now.t + 1) (take front.done flags.old) vectors.old }
+    requires rows { row_count vectors.old ≤ front.done * 64 }
     requires few { front.left ≤ 40 }
     requires low { front.first ≤ from }
     requires high { to ≤ front.first + front.ways }
@@ -86,35 +132,33 @@ fn first_among(
     if from >= to {
         return Ok(None);
     }
-    if is_known(alloc, code, classes, flags, front)? {
+    if is_known(code, classes, flags, front, vectors) {
         return Ok(None);
     }
     if front.done == flags.len() {
         return Ok(Some(from));
     }
-    first_below(alloc, code, classes, flags, front, from, to)
+    first_below(
+        alloc, code, classes, images, flags, front, vectors, from, to,
+    )
 }
 
-// Whether the slots of a front tell block 0. Where a slot is still to come it may be false although they do.
+// Whether the slots of a front tell block 0.
 fn is_known(
-    alloc: Global,
     code: &ByteCode,
     classes: &Classes,
     flags: &[bool],
     front: Front,
-) -> Result<bool, NoMemory>
+    vectors: &Matrix<Gf256>,
+) -> bool
     requires room { length flags.now ≡ classes.now.t + 1 }
-    requires within { front.done ≤ length flags.now }
+    requires span { IsSpan code.now (classes.now.t + 1) (take front.done flags.now) vectors.now }
     requires first_lost { IsSet (take front.done flags.now) 0 }
-    ensures known { IfOk result (λ known. IsTrue known → IsDecided 0 gf256_product code.now (take front.done flags.now)) }
-    ensures unknown { IfOk result (λ known. front.done ≡ length flags.now → IsDecided 0 gf256_product code.now flags.now → IsTrue known) }
+    ensures { IsTrue result ↔ IsDecided 0 gf256_product code.now (take front.done flags.now) }
 {
     let _count = classes.count();
-    // A lost slot tells nothing more.
-    if front.done < flags.len() && flags[front.done - 1] {
-        return Ok(false);
-    }
-    is_decided(alloc, code, &flags[..front.done])
+    vectors.known();
+    are_zero_from(vectors, flags.len() * code.r())
 }
 
 // The same, where a slot is still to come.
@@ -123,14 +167,19 @@ fn first_below(
     alloc: Global,
     code: &ByteCode,
     classes: &Classes,
+    images: &Matrix<Gf256>,
     flags: &mut [bool],
     front: Front,
+    vectors: &mut Matrix<Gf256>,
     from: u32,
     to: u32,
 ) -> Result<Option<u32>, NoMemory>
     requires room { length flags.old ≡ classes.now.t + 1 }
     requires slot { front.done < length flags.old }
     requires front { IsFrontOf classes.now flags.old front.done front.left front.first front.ways }
+    requires units { AreUnitImages code.now (classes.now.t + 1) images.now }
+    requires span { IsSpan code.now (classes.now.t + 1) (take front.done flags.old) vectors.old }
+    requires rows { row_count vectors.old ≤ front.done * 64 }
     requires few { front.left ≤ 40 }
     requires low { front.first ≤ from }
     requires high { to ≤ front.first + front.ways }
@@ -139,28 +188,16 @@ fn first_below(
     ensures room { length flags.new ≡ length flags.old }
 {
     let middle = front.first + ways_lost(classes, flags, front);
+    let high = to.min(middle);
     let found = first_lost(
-        alloc,
-        code,
-        classes,
-        flags,
-        front,
-        middle,
-        from,
-        to.min(middle),
+        alloc, code, classes, images, flags, front, vectors, middle, from, high,
     )?;
     if found.is_some() {
         return Ok(found);
     }
+    let low = from.max(middle);
     first_kept(
-        alloc,
-        code,
-        classes,
-        flags,
-        front,
-        middle,
-        from.max(middle),
-        to,
+        alloc, code, classes, images, flags, front, vectors, middle, low, to,
     )
 }
 
@@ -170,8 +207,10 @@ fn first_lost(
     alloc: Global,
     code: &ByteCode,
     classes: &Classes,
+    images: &Matrix<Gf256>,
     flags: &mut [bool],
     front: Front,
+    vectors: &Matrix<Gf256>,
     middle: u32,
     from: u32,
     to: u32,
@@ -179,6 +218,9 @@ fn first_lost(
     requires room { length flags.old ≡ classes.now.t + 1 }
     requires slot { front.done < length flags.old }
     requires front { IsFrontOf classes.now flags.old front.done front.left front.first front.ways }
+    requires units { AreUnitImages code.now (classes.now.t + 1) images.now }
+    requires span { IsSpan code.now (classes.now.t + 1) (take front.done flags.old) vectors.now }
+    requires rows { row_count vectors.now ≤ front.done * 64 }
     requires few { front.left ≤ 40 }
     requires middle { middle ≡ front.first + front.ways * front.left / (length flags.old - front.done) }
     requires low { front.first ≤ from }
@@ -192,7 +234,10 @@ fn first_lost(
     }
     flags[front.done] = true;
     let next = lost_next(classes, flags, front, middle);
-    first_among(alloc, code, classes, flags, next, from, to)
+    let mut more = open_lost(alloc, code, classes, images, flags, front.done, vectors)?;
+    first_among(
+        alloc, code, classes, images, flags, next, &mut more, from, to,
+    )
 }
 
 // The same of those that keep the next slot, which are from index `middle` on.
@@ -201,8 +246,10 @@ fn first_kept(
     alloc: Global,
     code: &ByteCode,
     classes: &Classes,
+    images: &Matrix<Gf256>,
     flags: &mut [bool],
     front: Front,
+    vectors: &mut Matrix<Gf256>,
     middle: u32,
     from: u32,
     to: u32,
@@ -210,6 +257,9 @@ fn first_kept(
     requires room { length flags.old ≡ classes.now.t + 1 }
     requires slot { front.done < length flags.old }
     requires front { IsFrontOf classes.now flags.old front.done front.left front.first front.ways }
+    requires units { AreUnitImages code.now (classes.now.t + 1) images.now }
+    requires span { IsSpan code.now (classes.now.t + 1) (take front.done flags.old) vectors.old }
+    requires rows { row_count vectors.old ≤ front.done * 64 }
     requires few { front.left ≤ 40 }
     requires middle { middle ≡ front.first + front.ways * front.left / (length flags.old - front.done) }
     requires within { middle ≤ front.first + front.ways }
@@ -221,7 +271,55 @@ fn first_kept(
 {
     flags[front.done] = false;
     let next = kept_next(classes, flags, front, middle);
-    first_among(alloc, code, classes, flags, next, from, to)
+    open_kept(code, classes, flags, front.done, vectors);
+    first_among(alloc, code, classes, images, flags, next, vectors, from, to)
+}
+
+// What is open once slot `done` is lost too.
+fn open_lost(
+    alloc: Global,
+    code: &ByteCode,
+    classes: &Classes,
+    images: &Matrix<Gf256>,
+    flags: &[bool],
+    done: usize,
+    vectors: &Matrix<Gf256>,
+) -> Result<Matrix<Gf256>, NoMemory>
+    requires room { length flags.now ≡ classes.now.t + 1 }
+    requires slot { done < length flags.now }
+    requires set { slice_index_or flags.now done false ≡ true }
+    requires units { AreUnitImages code.now (classes.now.t + 1) images.now }
+    requires span { IsSpan code.now (classes.now.t + 1) (take done flags.now) vectors.now }
+    requires rows { row_count vectors.now ≤ done * 64 }
+    ensures span { IfOk result (λ more. IsSpan code.now (classes.now.t + 1) (take (done + 1) flags.now) more) }
+    ensures rows { IfOk result (λ more. row_count more ≤ (done + 1) * 64) }
+{
+    let _count = classes.count();
+    let k = code.k();
+    let more = with_units(alloc, vectors, images, k, done)?;
+    more.known();
+    Ok(more)
+}
+
+// What is open once slot `done` is kept.
+fn open_kept(
+    code: &ByteCode,
+    classes: &Classes,
+    flags: &[bool],
+    done: usize,
+    vectors: &mut Matrix<Gf256>,
+)
+    requires room { length flags.now ≡ classes.now.t + 1 }
+    requires slot { done < length flags.now }
+    requires clear { slice_index_or flags.now done true ≡ false }
+    requires span { IsSpan code.now (classes.now.t + 1) (take done flags.now) vectors.old }
+    requires rows { row_count vectors.old ≤ done * 64 }
+    ensures span { IsSpan code.now (classes.now.t + 1) (take (done + 1) flags.now) vectors.new }
+    ensures rows { row_count vectors.new ≤ (done + 1) * 64 }
+{
+    let _count = classes.count();
+    let r = code.r();
+    clear_columns(vectors, done * r, r);
 }
 
 // How many classes of a front lose the next slot.

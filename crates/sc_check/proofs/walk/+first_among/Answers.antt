@@ -1,23 +1,23 @@
 use Rattle.std.proofs.Common.{◌+◌, true, false, sym, ◌∙◌, arith}
-use Rattle.sc_check.proofs.WalkSteps.{decides-front, fails-told, FirstIn-told, kept_flags}
+use Rattle.sc_check.proofs.WalkSteps.{decides-front, fails-known, FirstIn-told, kept_flags}
 use Rattle.sc_check.proofs.walk.+first_among.Goals as goal
 
-pub first_among-returns-then-branch-clause-found :
-    goal.first_among-returns-then-branch-clause-found
-first_among-returns-then-branch-clause-found t c =
+pub first_among-returns-then-is_known-clause-found :
+    goal.first_among-returns-then-is_known-clause-found
+first_among-returns-then-is_known-clause-found t c =
     decides-front c.args.code.now c.args.classes.now c.args.flags.now c.args.front.done c.args.front.left c.args.front.first c.args.front.ways c.args.from c.args.to c.requires.front c.requires.low c.requires.high
-    (c.in_ok-is_known.ensures.known c.if-branch.true)
+    (c.is_known.ensures.0 c.if-is_known.true)
 
 pub first_among-returns-then-front-flags-clause-found :
     goal.first_among-returns-then-front-flags-clause-found
 first_among-returns-then-front-flags-clause-found t c =
-    fails-told c.args.code.now c.args.classes.now c.args.flags.now c.args.front.done c.args.front.left c.args.front.first c.args.front.ways c.args.from c.args.to c.in_ok-is_known.field-0 c.requires.front c.requires.room
-    (cc) c.requires.low c.requires.high (omega (arith, c.if-from-to.false)) c.in_ok-is_known.ensures.unknown (cc)
+    fails-known c.args.code.now c.args.classes.now c.args.flags.now c.args.front.done c.args.front.left c.args.front.first c.args.front.ways c.args.from c.args.to c.is_known.result c.requires.front c.requires.room
+    (cc) c.requires.low c.requires.high (omega (arith, c.if-from-to.false)) c.is_known.ensures c.if-is_known.false
 
 pub first_below-returns-clause-found : goal.first_below-returns-clause-found
 first_below-returns-clause-found t c =
-    FirstIn-told c.args.code.now c.args.classes.now c.args.from c.args.to (c.args.front.first + c.ways_lost.result) c.min.result c.in_ok-found.found c.first_kept.result c.min.ensures (sym c.if-is_some.false ∙ c.is_some.ensures)
-    c.in_ok-found.ensures.found (rw (sym c.max.ensures) c.first_kept.ensures.found)
+    FirstIn-told c.args.code.now c.args.classes.now c.args.from c.args.to (c.args.front.first + c.ways_lost.result) c.min-high.result c.in_ok-found.found c.first_kept.result c.min-high.ensures (sym c.if-is_some.false ∙ c.is_some.ensures)
+    c.in_ok-found.ensures.found (rw (sym c.max-low.ensures) c.first_kept.ensures.found)
 
 pub first_kept-returns-clause-kept : goal.first_kept-returns-clause-kept
 first_kept-returns-clause-kept t c =
