@@ -1,24 +1,23 @@
 -- Columns are cleared by row operations, and images of unit streams are columns of the code's matrices.
-use Rattle.std.proofs.Common.{◌≡◌, ◌≢◌, ℕ, zero as none, suc, ◌+◌, ◌*◌, ◌-◌, ◌/◌, ◌%◌, ◌<◌, ◌≤◌, ◌↔◌, bit_xor, List, [], ◌∷◌, ◌++◌, length, get_or, map, take, set, replicate, All, refl, sym, ap, ap₂, ◌∙◌, subst, arith, inl, inr}
+use Rattle.std.proofs.Common.{◌≡◌, ◌≢◌, ℕ, zero as none, suc, ◌+◌, ◌*◌, ◌-◌, ◌<◌, ◌≤◌, bit_xor, List, [], ◌∷◌, ◌++◌, length, get_or, map, take, replicate, refl, sym, ap, ap₂, ◌∙◌, subst, arith, inl, inr}
 use Rattle.std.specs.List.{range_with_len}
 use Rattle.std.specs.Int.Bits.{xor_self}
-use Rattle.std.proofs.lemmas.Bool.{cases_lt, cases_order}
-use Rattle.std.proofs.lemmas.List.{append_assoc, length-append, get_or-set_same, get_or-set_other, get_or_default, get_or-take, length-take-le, take_all, length-map, length-set}
+use Rattle.std.proofs.lemmas.Bool.{cases_lt}
+use Rattle.std.proofs.lemmas.List.{append_assoc, length-append, get_or-set_same, get_or_default, get_or-take, length-take-le, take_all}
 use Rattle.std.proofs.lemmas.Nat.{mul-le}
 use Rattle.std.proofs.lemmas.List.FromFn.{map-range_with_len_more, length-map-range_with_len}
-use Rattle.std.proofs.lemmas.List.Edits.{swap_is, length-swap}
-use Rattle.std.proofs.lemmas.List.Elements.{All-take}
+use Rattle.std.proofs.lemmas.List.Edits.{length-swap}
 use Rattle.sc_field.specs.Gf256.{gf256_product, gf256_inverse}
 use Rattle.sc_field.specs.Laws.Gf256Laws.{gf256_field}
 use Rattle.sc_field.specs.FieldLemmas.{zero_add, mul_zero, second_zero}
 use Rattle.sc_matrix.specs.Module.{IsByte}
-use Rattle.sc_matrix.specs.Vector.{IsVector, add_vectors, scale_vector, combination, dot}
+use Rattle.sc_matrix.specs.Vector.{IsVector, add_vectors, scale_vector, combination}
 use Rattle.sc_matrix.specs.Matrix.{Matrix, IsMatrix, entry, row, row_count, add_row, swap_rows, first_rows}
 use Rattle.sc_matrix.specs.RowSpace.{IsInRowSpace, RowsAreIn, HaveOneRowSpace}
-use Rattle.sc_matrix.proofs.VectorLaws.{entry_at, IsVector-take, get_or-add_vectors, get_or-scale_vector, length-scale_vector, vector_of, map_const}
+use Rattle.sc_matrix.proofs.VectorLaws.{entry_at, IsVector-take, get_or-add_vectors, get_or-scale_vector, length-scale_vector, vector_of}
 use Rattle.sc_matrix.proofs.ModuleLaws.{dot_more}
-use Rattle.sc_matrix.proofs.Modules.{field_module, vector_module, IsVector-combination}
-use Rattle.sc_matrix.proofs.RowSpaceLaws.{row-in_row_space, row_space-rows_in, row_space-add_row, row_space-swap_rows}
+use Rattle.sc_matrix.proofs.Modules.{vector_module, IsVector-combination}
+use Rattle.sc_matrix.proofs.RowSpaceLaws.{row-in_row_space, row_space-rows_in, row_space-swap_rows}
 use Rattle.sc_code.specs.Code.{Code, IsCode, coefficient}
 use Rattle.sc_code.specs.Parity.{sum_below}
 use Rattle.sc_code.proofs.SumLaws.{sum_below-zeros}

@@ -1,7 +1,7 @@
 -- The span of the open streams: at the start, after a lost slot, after a kept one, and what it tells of block 0.
 use Rattle.std.proofs.Common.{◌≡◌, ◌≢◌, ℕ, zero as none, suc, ◌+◌, ◌*◌, ◌-◌, ◌/◌, ◌%◌, ◌<◌, ◌≤◌, ◌↔◌, leb, eqb, bit_xor, Bool, true, false, cond, List, [], ◌∷◌, ◌++◌, length, get_or, map, replicate, All, ◌⊎◌, refl, sym, ap, ap₂, ◌∙◌, subst, arith, inl, inr}
 use Rattle.std.specs.List.{range_with_len}
-use Rattle.std.proofs.lemmas.Bool.{cases_lt, cases_order, both_ways, cond-true, cond-false, cond_both, le-leb, lt-leb, lt-ltb, le-ltb, eq-eqb, ne_eqb, false≢true}
+use Rattle.std.proofs.lemmas.Bool.{cases_lt, cases_order, cond-true, cond-false, cond_both, le-leb, lt-leb, lt-ltb, le-ltb, eq-eqb, ne_eqb, false≢true}
 use Rattle.std.proofs.lemmas.Nat.{div-mul-add, mod-mul-add, mul-add-lt}
 use Rattle.std.proofs.lemmas.List.{length-append, length-replicate, get_or-replicate, same_lists, get_or_append_left, get_or-append_right, get_or_default}
 use Rattle.std.proofs.lemmas.List.Elements.{All-nil, All-append}
@@ -16,12 +16,12 @@ use Rattle.sc_matrix.specs.RowSpace.{IsSubspace, IsInRowSpace, RowsAreIn}
 use Rattle.sc_matrix.proofs.VectorLaws.{vector_of, get_or-add_vectors, get_or-scale_vector}
 use Rattle.sc_matrix.proofs.Modules.{field_module, vector_module}
 use Rattle.sc_matrix.proofs.RowSpaceLaws.{dot_in, row_space_subspace, row-in_row_space, row_space-rows_in}
-use Rattle.sc_code.specs.Code.{Code, IsCode, coefficient}
+use Rattle.sc_code.specs.Code.{Code, IsCode}
 use Rattle.sc_code.specs.Determined.{IsKept, IsDecided}
 use Rattle.sc_code.proofs.MeetsLaws.{IsKept-in_range}
 use Rattle.sc_code.proofs.ColumnLaws.{All-map_range}
 use Rattle.sc_code.proofs.ElementLaws.{DecidesElements-from_decided, decided_from_DecidesElements, IsDecidedOver-iff_bytes}
-use Rattle.sc_code.proofs.ParityLaws.{AreValues, plus_symbols, AreValues-plus, parity_symbol-same, parity_symbol-plus, parity_symbol-zeros, linear-parity_symbol}
+use Rattle.sc_code.proofs.ParityLaws.{AreValues, plus_symbols, parity_symbol-same, parity_symbol-plus, parity_symbol-zeros, linear-parity_symbol}
 use Rattle.sc_check.specs.Span.{parity_at, image_width, image_entry, image, IsOpen, IsOpenImage, IsSpan, unit_stream, IsCleared}
 
 -- ---- lists made from a function

@@ -24,7 +24,7 @@ use Rattle.sc_matrix.specs.Module.{IsByte}
 use Rattle.sc_matrix.specs.Matrix.{Matrix, IsMatrix, entry, row, row_count}
 use Rattle.sc_code.specs.Code.{IsCode}
 use Rattle.sc_check.specs.Span.{image, unit_stream, unit_image, IsSpan, IsCleared, AreUnitImages}
-use Rattle.sc_check.proofs.SpanSteps.{map_range-same, IsSpan-start, IsSpan-lost, IsSpan-kept, decides-span}
+use Rattle.sc_check.proofs.SpanSteps.{map_range-same, IsSpan-lost, IsSpan-kept, decides-span}
 
 -- ---- the lists for m places of which n are set
 -- how many of them have the first flag set

@@ -179,7 +179,11 @@ fn clear_row(m: &mut Matrix<Gf256>, i: usize, c: usize, last: usize)
     ensures matrix { IsMatrix IsByte m.new }
 {
     m.known();
-    let factor = m.get(i, c).mul(m.get(last, c).inv());
+    let number = m.get(i, c);
+    if number == Gf256::zero() {
+        return;
+    }
+    let factor = number.mul(m.get(last, c).inv());
     m.row_add(i, factor, last);
     m.known();
 }

@@ -1,4 +1,4 @@
-use Rattle.std.proofs.Common.{◌-◌, arith, refl}
+use Rattle.std.proofs.Common.{◌-◌, arith}
 use Rattle.sc_check.proofs.ClearSteps.{IsCleared-zeros, IsCleared-pivot}
 use Rattle.sc_check.proofs.span.clear_column.Goals as goal
 

@@ -1,4 +1,4 @@
-use Rattle.std.proofs.Common.{◌≡◌, ℕ, ◌+◌, subst, ◌∙◌, arith}
+use Rattle.std.proofs.Common.{◌≡◌, ◌+◌, subst, ◌∙◌, arith}
 use Rattle.sc_check.specs.Span.{IsCleared}
 use Rattle.sc_check.proofs.ClearSteps.{IsCleared-more}
 use Rattle.sc_check.proofs.span.clear_columns.Goals as goal

@@ -1,6 +1,6 @@
-use Rattle.std.proofs.Common.{◌≡◌, ℕ, List, get_or, refl, sym, ap, ◌∙◌, subst, arith, inl, inr}
+use Rattle.std.proofs.Common.{◌≡◌, ℕ, List, get_or, refl, ap, ◌∙◌, subst, arith, inl, inr}
 use Rattle.std.proofs.lemmas.Bool.{cases_lt}
-use Rattle.sc_matrix.specs.Matrix.{Matrix, entry}
+use Rattle.sc_matrix.specs.Matrix.{entry}
 use Rattle.sc_check.proofs.ClearSteps.{one_space-self, one_space-trans}
 use Rattle.sc_check.proofs.span.clear_rows.Goals as goal
 

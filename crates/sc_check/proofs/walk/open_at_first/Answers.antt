@@ -1,4 +1,4 @@
-use Rattle.std.proofs.Common.{◌≡◌, ℕ, ◌+◌, ◌*◌, ap, ap₂, ◌∙◌, sym}
+use Rattle.std.proofs.Common.{ℕ, ◌+◌, ◌*◌, ap, ap₂, ◌∙◌}
 use Rattle.sc_matrix.specs.Matrix.{Matrix}
 use Rattle.sc_check.proofs.SpanSteps.{IsSpan-start}
 use Rattle.sc_check.proofs.walk.open_at_first.Goals as goal
