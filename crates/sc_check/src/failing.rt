@@ -6,13 +6,13 @@ ghost use Rattle.sc_field.specs.Gf256.{gf256_product};
 ghost use Rattle.sc_channel.specs.Flags.{IsSet};
 ghost use Rattle.sc_channel.specs.Classes.{class_count};
 ghost use Rattle.sc_code.specs.Determined.{IsDecided};
-ghost use Rattle.sc_check.specs.Failing.{DecidesAll, IsFirstFailing, FirstIn, least_found};
+ghost use Rattle.sc_check.specs.Failing.{DecidesAt, DecidesAll, IsFirstFailing, FirstIn, least_found};
 
 use crate::gate::Gate;
+use crate::walk::{first_behind_burst, is_decided};
 use sc_channel::Classes;
 use sc_code::ByteCode;
 use sc_outside::NoMemory;
-use sc_window::decides;
 use std::alloc::Global;
 use std::thread::{Threads, join};
 
@@ -128,20 +128,24 @@ fn first_by(
     requires room { length flags.old ≡ classes.now.t + 1 }
     ensures { IfOk result (FirstIn code.now classes.now from to) }
 {
-    for index in from..to {
-        classes.write_class(index, flags);
-        if !is_decided(alloc, code, flags)? {
-            return Ok(Some(index));
-        }
+    if from == 0 && 0 < to && !decides_burst(alloc, code, classes, flags)? {
+        return Ok(Some(0));
     }
-    Ok(None)
+    first_behind_burst(alloc, code, classes, flags, from.max(1), to)
 }
 
-// Whether the code decides a class.
-fn is_decided(alloc: Global, code: &ByteCode, class: &[bool]) -> Result<bool, NoMemory>
-    requires few { length class.now ≤ 41 }
-    requires first_lost { IsSet class.now 0 }
-    ensures { IfOk result (λ decided. IsTrue decided ↔ IsDecided 0 gf256_product code.now class.now) }
+// Whether the code decides class 0.
+fn decides_burst(
+    alloc: Global,
+    code: &ByteCode,
+    classes: &Classes,
+    flags: &mut [bool],
+) -> Result<bool, NoMemory>
+    requires some { 0 < class_count classes.now }
+    requires room { length flags.old ≡ classes.now.t + 1 }
+    ensures decides { IfOk result (λ decided. IsTrue decided ↔ DecidesAt code.now classes.now 0) }
+    ensures room { length flags.new ≡ length flags.old }
 {
-    decides(alloc, code, class)
+    classes.write_class(0, flags);
+    is_decided(alloc, code, flags)
 }

@@ -4,7 +4,9 @@
 mod failing;
 mod gate;
 mod laws;
+mod span;
 mod verdict;
+mod walk;
 
 pub use failing::{MAX_WORKERS, first_failing};
 pub use gate::{Gate, NoGate};
