@@ -293,6 +293,22 @@ with tempfile.TemporaryDirectory() as folder:
     answers("a refused certificate", ["certify", repeats, short], held(capture), 1, b"", b"certificate refused at residue 1\n")
     answers("no certificate", ["certify", repeats, repeats], held(capture), 3, b"", b"certificate shape other\n")
 
+    # Designs. The entry of the one layered code is drawn by words 0 and 1; a designed code meets its channel.
+    empty = lambda: held(b"")
+    answers("design optimal", ["design", "optimal", "2", "1", "1", "1"], empty(), 0, b'{"channel":[2,1,1,1],"k":1,"lags":[[[0]],[[42]]],"r":1}\n', b"candidate 0 rate 1/2\n")
+    of_bursts = b'{"channel":[3,2,1,2],"k":2,"lags":[[[0,0],[0,0]],[[0,0],[0,0]],[[1,0],[0,1]],[[0,0],[0,0]]],"r":2}\n'
+    answers("design ms", ["design", "ms", "3", "2", "1", "2"], empty(), 0, of_bursts, b"candidate 0 rate 2/4\n")
+    single = b'{"channel":[4,1,1,3],"k":3,"lags":[[[0],[0],[0]],[[0],[0],[142]],[[0],[1],[0]],[[1],[0],[0]]],"r":1}\n'
+    answers("design ms of one", ["design", "ms", "4", "1", "1", "3"], empty(), 0, single, b"candidate 0 rate 3/4\n")
+    answers("design ms of two", ["design", "ms", "3", "2", "2", "2"], empty(), 10, b"", b"no code\n")
+    answers("design ms too wide", ["design", "ms", "41", "25", "1", "40"], empty(), 4, b"", b"limit symbols 65\n")
+    answers("design layered", ["design", "layered", "2", "1", "1", "1"], empty(), 0, b'{"channel":[2,1,1,1],"k":1,"lags":[[[0,42]],[[1,219]]],"r":2}\n', b"candidate 0 rate 1/3\n")
+    designed = run(["design", "optimal", "11", "4", "2", "10"], empty())
+    expect("design of a code", (designed.returncode, designed.stderr), (0, b"candidate 0 rate 9/13\n"))
+    code = json.loads(designed.stdout)
+    expect("its sizes", (code["k"], code["r"], code["channel"]), (9, 4, [11, 4, 2, 10]))
+    answers("it meets its channel", ["check", named("designed.json", designed.stdout.decode()), "4"], empty(), 0, b"meets 11 4 2 10 rate 9/13 classes 11\n", b"accepted\n")
+
     # A folder can't be read, and nothing can be written to a device that is full.
     directory = os.open(folder, os.O_RDONLY)
     answers("a failed read", lose + ["0"], directory, 7, b"", b"read fault\n")
