@@ -5,10 +5,10 @@ ghost use Rattle.sc_channel.specs.Channel.{IsChannel};
 ghost use Rattle.sc_layered.specs.Draw.{generator, nonzero_at};
 ghost use Rattle.sc_layered.specs.Layered.{second_layer, layered_parity, layered_width, second_word, first_coefficient, layered_code};
 
+use crate::draw::Draws;
 use sc_channel::Channel;
 use sc_code::ByteCode;
 use sc_diag::{Entries, code_of};
-use crate::draw::Draws;
 use sc_field::{Field, Gf256};
 use sc_outside::NoMemory;
 use std::alloc::Global;

@@ -7,8 +7,8 @@ ghost use Rattle.sc_optimal.specs.Optimal.{drawn_matrix, low_rank, optimal_entry
 
 use crate::sizes::Sizes;
 use sc_diag::{Entries, matrix_of};
-use sc_layered::Draws;
 use sc_field::{Field, Gf256};
+use sc_layered::Draws;
 use sc_matrix::Matrix;
 use sc_outside::NoMemory;
 use std::alloc::Global;

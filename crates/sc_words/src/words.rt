@@ -494,7 +494,10 @@ mod tests {
     fn reads_the_forms_of_design(rt: HostRuntime) -> Result<(), Fail> {
         for (line, want) in [
             ("design ms 3 2 1 2", Some((Kind::Ms, (3, 2, 1, 2)))),
-            ("design layered 2 1 1 1", Some((Kind::Layered, (2, 1, 1, 1)))),
+            (
+                "design layered 2 1 1 1",
+                Some((Kind::Layered, (2, 1, 1, 1))),
+            ),
             (
                 "design optimal 11 4 2 10",
                 Some((Kind::Optimal, (11, 4, 2, 10))),
