@@ -36,7 +36,6 @@ use Rattle.streamcode.specs.declared.end.End.{End}
 use Rattle.streamcode.specs.declared.end.End.TheVariants.{Thinned, Generated, Protected, Bound, Designed, Accepted, Refused, CertificateRefused, LossRefused, Usage, Capture, MoreRecords, FewerRecords, FileRefused, FileTooLong, PacketTooWide, PacketTooLong, TooManyRecords, TooManySlots, TooManySymbols, NoCode, TooManyClasses, ReadFault, WriteFault, NoMemory}
 use Rattle.streamcode.specs.End.{status_of, end_of_drop, end_of_protect, end_of_design}
 use Rattle.streamcode.specs.Jobs.{refusal, giving, lose_by, lose_job, gen_job, protect_job, check_by, check_job, bound_job, certify_by, certify_job, maker_of, design_text, design_by, design_job, IsSilent}
-use Rattle.sc_code.specs.Code.{Code}
 use Rattle.sc_check.specs.Answer.{refuted_of}
 use Rattle.sc_optimal.specs.declared.design.Found.{Found}
 use Rattle.sc_optimal.specs.declared.kind.DesignFault.{DesignFault}
@@ -419,15 +418,14 @@ pub design_memory : (kind : Kind) (channel : ChannelNumbers) (told : Told) → E
 design_memory kind channel told = design_by_memory channel (design_of (maker_of kind) channel) told
 
 -- memory ran out, or the fault is told
-pub design_refused : (kind : Kind) (channel : ChannelNumbers) (told : Told) (result : Result Found DesignFault) (fault : DesignFault)
-    → (result ≡ Err design.Memory) ⊎ (result ≡ design_of (maker_of kind) channel) → result ≡ Err fault
-    → Ends (design_job kind channel) told told (end_of_design fault)
-design_refused kind channel told result fault (inl memory) is =
+pub design_told : (kind : Kind) (channel : ChannelNumbers) (told : Told) (maker : MakerKind) (result : Result Found DesignFault) (fault : DesignFault) (end : End) → maker ≡ maker_of kind
+    → result ≡ Err fault → (result ≡ Err design.Memory) ⊎ (result ≡ design_of maker channel) → end ≡ end_of_design fault → Ends (design_job kind channel) told told end
+design_told kind channel told maker result fault end made failed (inl memory) is =
     let same : fault ≡ design.Memory = cc in
-    subst (λ f. Ends (design_job kind channel) told told (end_of_design f)) (sym same) (design_memory kind channel told)
-design_refused kind channel told result fault (inr answer) is =
-    subst (λ a. Ends (design_by channel a) told told (end_of_design fault)) (sym is ∙ answer)
-    (Ends-at_once (end_of_design fault) ReadFault WriteFault NoMemory true told)
+    subst (λ e. Ends (design_job kind channel) told told e) (sym (is ∙ ap end_of_design same)) (design_memory kind channel told)
+design_told kind channel told maker result fault end made failed (inr answer) is =
+    subst (λ a. Ends (design_by channel a) told told end) (sym failed ∙ answer ∙ ap (λ m. design_of m channel) made)
+    (subst (λ e. Ends (refusal true (end_of_design fault)) told told e) (sym is) (Ends-at_once (end_of_design fault) ReadFault WriteFault NoMemory true told))
 
 pub design_given : (kind : Kind) (channel : ChannelNumbers) (result : Result Found DesignFault) (found : Found) (end : End) (old new : Told)
     → (result ≡ Err design.Memory) ⊎ (result ≡ design_of (maker_of kind) channel) → result ≡ Ok found
