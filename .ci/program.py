@@ -28,7 +28,7 @@ def thinned(data, loss):
         if flag == "0":
             out.append(data[at:end])
         at = end
-    assert at == len(data), "the loss word has a character for each record"
+    assert at == len(data), "the loss has a flag for each record"
     return b"".join(out)
 
 
@@ -189,8 +189,10 @@ def record(body):
 
 
 capture = open(os.path.join(top, "examples", "voice-opus.rtp"), "rb").read()
-loss = open(os.path.join(top, "examples", "voice-opus.loss")).read().strip()
-lose = ["lose", "11", "4", "2", "10"]
+optimal = os.path.join(top, "examples", "optimal.json")
+sample = os.path.join(top, "examples", "voice-opus-loss.json")
+loss = json.load(open(sample))["loss"]
+lose = ["lose", optimal, sample]
 start = capture[: capture.index(b"\n") + 17]
 
 with tempfile.TemporaryDirectory() as folder:
@@ -201,18 +203,47 @@ with tempfile.TemporaryDirectory() as folder:
             file.write(data)
         return open(path, "rb")
 
+    def named(name, text):
+        path = os.path.join(folder, name)
+        with open(path, "w") as file:
+            file.write(text)
+        return path
+
+    def losing(flags):
+        """The words of `lose` for the example's code and a loss file with these flags."""
+        return ["lose", optimal, named(f"loss-{flags[:20]}.json", json.dumps({"loss": flags}))]
+
     note = f"records {len(loss)} lost {loss.count('1')}\n".encode()
-    answers("a capture", lose + [loss], held(capture), 0, thinned(capture, loss), note)
-    answers("a refused loss", lose + ["111110"], held(capture), 1, b"", b"loss refused at window 0\n")
-    for what, words in [("no words", []), ("no channel", ["lose", "3", "3", "1", "2", ""]), ("other words", ["loose"])]:
+    answers("a capture", lose, held(capture), 0, thinned(capture, loss), note)
+    answers("a refused loss", losing("111110"), held(capture), 1, b"", b"loss refused at window 0\n")
+    answers("a loss for another channel", ["lose", os.path.join(top, "examples", "burst.json"), sample], held(capture), 1, b"", b"loss refused at window 15\n")
+    for what, words in [
+        ("no words", []),
+        ("other words", ["loose", optimal, sample]),
+        ("one file", ["lose", optimal]),
+        ("a channel and a word", ["lose", "11", "4", "2", "10", loss]),
+    ]:
         answers(what, words, held(capture), 2, b"", b"usage\n")
-    answers("a word that isn't UTF-8", [b"lose", b"\xff"], held(capture), 2, b"", b"usage\n")
-    answers("no preamble", lose + ["0"], held(b"RIFF"), 3, b"", b"preamble\n")
+    answers("a word that isn't UTF-8", [b"lose", b"\xff", sample], held(capture), 2, b"", b"usage\n")
+    answers("files exchanged", ["lose", sample, optimal], held(capture), 3, b"", b"code shape other\n")
+    for what, text, told in [
+        ("no JSON", loss, b"loss not json\n"),
+        ("no text", '{"loss":[0]}', b"loss shape loss\n"),
+        ("another character", '{"loss":"012"}', b"loss range loss\n"),
+    ]:
+        answers(f"a loss with {what}", ["lose", optimal, named("bad.json", text)], held(capture), 3, b"", told)
+    answers("a long loss", ["lose", optimal, named("long.json", " " * 4194305)], held(capture), 4, b"", b"loss limit 4194305\n")
+    answers("no loss", ["lose", optimal, os.path.join(folder, "none.json")], held(capture), 7, b"", b"read fault\n")
+    answers("no preamble", losing("0"), held(b"RIFF"), 3, b"", b"preamble\n")
     cut = start + record(b"one") + record(b"two")[:-1]
-    answers("a cut record", lose + ["00"], held(cut), 3, start + record(b"one"), b"record 1 cut\n")
+    answers("a cut record", losing("00"), held(cut), 3, start + record(b"one"), b"record 1 cut\n")
     two = start + record(b"one") + record(b"two")
-    answers("more records", lose + ["0"], held(two), 3, start + record(b"one"), b"flags 1 more records\n")
-    answers("fewer records", lose + ["0010"], held(two), 3, two, b"flags 4 records 2\n")
+    answers("more records", losing("0"), held(two), 3, start + record(b"one"), b"flags 1 more records\n")
+    answers("fewer records", losing("0010"), held(two), 3, two, b"flags 4 records 2\n")
+    # A burst of 4 in each 100 records; so many flags would be no word of a command line.
+    many = ("1111" + "0" * 96) * 2000
+    long = start + b"".join(record(b"") for _ in many)
+    answers("many flags", losing(many), held(long), 0, thinned(long, many), b"records 200000 lost 8000\n")
 
     # Generated captures. They leave the input alone, a folder too, which can't be read.
     directory = os.open(folder, os.O_RDONLY)
@@ -224,12 +255,6 @@ with tempfile.TemporaryDirectory() as folder:
         answers(line, line.split(), held(capture), 2, b"", b"usage\n")
 
     # Protected captures, by the example's code and by one that repeats the block two slots before.
-    def named(name, text):
-        path = os.path.join(folder, name)
-        with open(path, "w") as file:
-            file.write(text)
-        return path
-
     burst = os.path.join(top, "examples", "burst.json")
     repeats = named("repeats.json", '{"channel":[3,2,1,2],"k":1,"lags":[[[0]],[[0]],[[1]]],"r":1}')
     for what, name, size, data in [
@@ -307,15 +332,17 @@ with tempfile.TemporaryDirectory() as folder:
     expect("design of a code", (designed.returncode, designed.stderr), (0, b"candidate 0 rate 9/13\n"))
     code = json.loads(designed.stdout)
     expect("its sizes", (code["k"], code["r"], code["channel"]), (9, 4, [11, 4, 2, 10]))
+    expect("it is the example", designed.stdout, open(optimal, "rb").read())
+    expect("it is judged again", checked(code), "meets 11 4 2 10 rate 9/13 classes 11\n")
     answers("it meets its channel", ["check", named("designed.json", designed.stdout.decode()), "4"], empty(), 0, b"meets 11 4 2 10 rate 9/13 classes 11\n", b"accepted\n")
 
     # A folder can't be read, and nothing can be written to a device that is full.
     directory = os.open(folder, os.O_RDONLY)
-    answers("a failed read", lose + ["0"], directory, 7, b"", b"read fault\n")
+    answers("a failed read", losing("0"), directory, 7, b"", b"read fault\n")
     os.close(directory)
     if os.path.exists("/dev/full"):
         with open("/dev/full", "wb") as full:
-            for words in [lose + [loss], ["gen", "7", "3", "20"], ["protect", burst, "200"], ["check", repeats, "1"], ["bound", "3", "2", "1", "2"]]:
+            for words in [lose, ["gen", "7", "3", "20"], ["protect", burst, "200"], ["check", repeats, "1"], ["bound", "3", "2", "1", "2"]]:
                 done = run(words, held(capture), stdout=full)
                 expect(f"{words[0]}, a failed write: status", done.returncode, 8)
                 expect(f"{words[0]}, a failed write: note", done.stderr, b"write fault\n")
@@ -323,7 +350,7 @@ with tempfile.TemporaryDirectory() as folder:
     # The program's own name isn't read.
     other = os.path.join(folder.encode(), b"\xff\xfe")
     os.symlink(program.encode(), other)
-    answers("another name", lose + [loss], held(capture), 0, thinned(capture, loss), note, name=other)
+    answers("another name", lose, held(capture), 0, thinned(capture, loss), note, name=other)
 
 # On a live pipe what is due for a record comes out before the next one goes in.
 def streams(what, words, start, pieces, due):
@@ -343,7 +370,11 @@ def streams(what, words, start, pieces, due):
 
 
 records = [record(b"%d" % i) for i in range(5)]
-streams("lose", [*lose, "0" * 5], start, records, [start + b"".join(records[:n]) for n in range(6)])
+with tempfile.TemporaryDirectory() as folder:
+    path = os.path.join(folder, "loss.json")
+    with open(path, "w") as file:
+        file.write('{"loss":"00000"}')
+    streams("lose", ["lose", optimal, path], start, records, [start + b"".join(records[:n]) for n in range(6)])
 whole = generated(7, 5, 172)
 packets = [whole[44 + 180 * i : 44 + 180 * (i + 1)] for i in range(5)]
 slots = [protected(whole[: 44 + 180 * n], json.load(open(burst)), 172)[0] for n in range(6)]

@@ -1,9 +1,6 @@
--- The laws that crates above want:
+-- Why words are read as their definitions say. The crates above want none of it.
 --
---   LossWord       loss_word-length: a loss word has no more flags than a loss
---
--- The other files say how the words are read, and why there is one form of words for each command.
-mod Forms
+--   Numbers   the number that a word writes
+--   OneForm   there is one form of words for each command
 mod Numbers
 mod OneForm
-pub mod LossWord

@@ -1,70 +1,17 @@
 -- Words ask for a command exactly where they are its words.
-use Rattle.std.proofs.Common.{◌≡◌, ℕ, ◌≤◌, ◌&&◌, List, [], ◌∷◌, Bool, true, false, Option, Some, None, length, map, codes, cond, nat_le, arith, refl, ap, inl, inr, sym, ◌∙◌, subst}
-use Rattle.std.proofs.lemmas.Bool.Decides.{nat_tests, eqb_tells}
-use Rattle.std.proofs.lemmas.List.{length-map}
+use Rattle.std.proofs.Common.{◌≡◌, ℕ, ◌≤◌, List, [], ◌∷◌, Bool, true, false, Option, Some, None, codes, cond, nat_le, arith, refl, ap, sym, ◌∙◌, subst}
+use Rattle.std.proofs.lemmas.Bool.Decides.{nat_tests}
 use Rattle.std.proofs.lemmas.Option.{cond_some}
 use Rattle.std.proofs.lemmas.Slice.Eq.{bytes_eq-Decides}
 use Rattle.std.specs.Fmt.{decimal}
-use Rattle.std.specs.List.{list_all}
 use Rattle.std.specs.Str.{bytes_eq}
 use Rattle.sc_channel.specs.Channel.{ChannelNumbers, IsChannel, is_channel}
 use Rattle.sc_channel.proofs.ChannelLaws.{is_channel-to, is_channel-from}
-use Rattle.sc_channel.specs.declared.flags.TheConstants.{MAX_FLAGS}
 use Rattle.sc_words.specs.declared.words.Kind.{Kind}
 use Rattle.sc_words.specs.declared.words.Kind.TheVariants.{Ms, Layered, Optimal}
-use Rattle.sc_words.specs.Words.{Command, lose_word, generate, protect, check, bound, certify, design, number_to, channel_at, channel_of, is_flag, is_lost, is_loss_word, flags_of, lose_at, lose_of, gen_at, gen_of, protect_at, protect_of, check_at, check_of, bound_at, bound_of, certify_of, kind_of, design_at, design_of, command_of}
-use Rattle.sc_words.specs.Forms.{character_of, kind_word, words_of, IsWithinLimits}
-use Rattle.sc_words.proofs.Forms.{flags_of-word, flags_of-none}
+use Rattle.sc_words.specs.Words.{Command, lose, generate, protect, check, bound, certify, design, number_to, channel_at, channel_of, lose_of, gen_at, gen_of, protect_at, protect_of, check_at, check_of, bound_at, bound_of, certify_of, kind_of, design_at, design_of, command_of}
+use Rattle.sc_words.specs.Forms.{kind_word, words_of, IsWithinLimits}
 use Rattle.sc_words.proofs.Numbers.{number_to-to_decimal, number_to-decimal}
-
--- flags and their characters
-is_lost-characters : (flags : List Bool) → map is_lost (map character_of flags) ≡ flags
-is_lost-characters [] = refl
-is_lost-characters (true ∷ flags) = ap (λ fs. true ∷ fs) (is_lost-characters flags)
-is_lost-characters (false ∷ flags) = ap (λ fs. false ∷ fs) (is_lost-characters flags)
-
-is_flag-characters : (flags : List Bool) → list_all is_flag (map character_of flags) ≡ true
-is_flag-characters [] = refl
-is_flag-characters (true ∷ flags) = is_flag-characters flags
-is_flag-characters (false ∷ flags) = is_flag-characters flags
-
-character : (c : ℕ) → is_flag c ≡ true → c ≡ character_of (is_lost c)
-character c is = elim (eqb_tells c 49) [
-  | inl one ↦ one.1 ∙ sym (ap character_of one.0)
-  | inr other ↦ (let zero : c ≡ 48 = grind (arith, nat_tests) in zero ∙ sym (ap character_of other.0))
-]
-
-both : (a b : Bool) → (a && b) ≡ true → (a ≡ true) × (b ≡ true)
-both true true is = (refl, refl)
-both true false is = absurd (cc)
-both false b is = absurd (cc)
-
-characters : (word : List ℕ) → list_all is_flag word ≡ true → word ≡ map character_of (map is_lost word)
-characters [] all = refl
-characters (c ∷ word) all =
-    let parts = both (is_flag c) (list_all is_flag word) all in
-    let first = character c parts.0 in
-    let rest = characters word parts.1 in
-    cc
-
-flags_of-characters : (flags : List Bool) → length flags ≤ MAX_FLAGS → flags_of (map character_of flags) ≡ Some flags
-unfolding is_loss_word
-flags_of-characters flags short =
-    let fits : nat_le (length (map character_of flags)) MAX_FLAGS ≡ true = grind (arith, nat_tests, length-map flags character_of) in
-    flags_of-word (map character_of flags) (rw (fits, is_flag-characters flags) refl) ∙ ap Some (is_lost-characters flags)
-
-flags_of_parts : (word : List ℕ) (flags : List Bool) (test : Bool) → is_loss_word word ≡ test → flags_of word ≡ Some flags → (word ≡ map character_of flags) × (length flags ≤ MAX_FLAGS)
-unfolding is_loss_word
-flags_of_parts word flags false none is = (let no = flags_of-none word none in absurd (cc))
-flags_of_parts word flags true some is =
-    let value = flags_of-word word some in
-    let same : map is_lost word ≡ flags = cc in
-    let parts = both (nat_le (length word) MAX_FLAGS) (list_all is_flag word) some in
-    let short : length word ≤ MAX_FLAGS = grind (arith, nat_tests, parts.0) in
-    (characters word parts.1 ∙ ap (map character_of) same, omega (arith, ap length same, length-map word is_lost))
-
-flags_of-to : (word : List ℕ) (flags : List Bool) → flags_of word ≡ Some flags → (word ≡ map character_of flags) × (length flags ≤ MAX_FLAGS)
-flags_of-to word flags is = flags_of_parts word flags (is_loss_word word) refl is
 
 -- the parts of a channel's words, and of a command's
 record AreNumbers (w b n t : Option ℕ) (c : ChannelNumbers) : Type 0 where
@@ -94,36 +41,13 @@ channel_at-to None b n t c is = absurd (cc)
 abbrev AreItsWords : List (List ℕ) → Command → Type 0
 AreItsWords words command = (words ≡ words_of command) × IsWithinLimits command
 
-record LoseParts (o : Option ChannelNumbers) (f : Option (List Bool)) (command : Command) : Type 0 where
-  channel : ChannelNumbers
-  flags : List Bool
-  o_is : o ≡ Some channel
-  f_is : f ≡ Some flags
-  is : lose_word channel flags ≡ command
-
-lose_at-to : (o : Option ChannelNumbers) (f : Option (List Bool)) (command : Command) → lose_at o f ≡ Some command → LoseParts o f command
-lose_at-to (Some c) (Some flags) command is = record { channel = c; flags = flags; o_is = refl; f_is = refl; is = cc }
-lose_at-to (Some c) None command is = absurd (cc)
-lose_at-to None f command is = absurd (cc)
-
 lose_of-to : (words : List (List ℕ)) (command : Command) → lose_of words ≡ Some command → AreItsWords (codes "lose" ∷ words) command
 lose_of-to [] command is = absurd (cc)
-lose_of-to (w ∷ []) command is = absurd (cc)
-lose_of-to (w ∷ b ∷ []) command is = absurd (cc)
-lose_of-to (w ∷ b ∷ n ∷ []) command is = absurd (cc)
-lose_of-to (w ∷ b ∷ n ∷ t ∷ []) command is = absurd (cc)
-lose_of-to (w ∷ b ∷ n ∷ t ∷ loss ∷ []) command is =
-    let parts = lose_at-to (channel_of w b n t) (flags_of loss) command is in
-    let c = parts.channel in
-    let numbers = channel_at-to (number_to 4294967295 w) (number_to 4294967295 b) (number_to 4294967295 n) (number_to 4294967295 t) c parts.o_is in
-    let w_text : w ≡ decimal c.w = (number_to-to_decimal 4294967295 w c.w (omega arith) numbers.w_is).0 in
-    let b_text : b ≡ decimal c.b = (number_to-to_decimal 4294967295 b c.b (omega arith) numbers.b_is).0 in
-    let n_text : n ≡ decimal c.n = (number_to-to_decimal 4294967295 n c.n (omega arith) numbers.n_is).0 in
-    let t_text : t ≡ decimal c.t = (number_to-to_decimal 4294967295 t c.t (omega arith) numbers.t_is).0 in
-    let loss_text = flags_of-to loss parts.flags parts.f_is in
-    let loss_is : loss ≡ map character_of parts.flags = loss_text.0 in
-    subst (AreItsWords (codes "lose" ∷ w ∷ b ∷ n ∷ t ∷ loss ∷ [])) parts.is (cc, (is_channel-to c numbers.channel, loss_text.1))
-lose_of-to (w ∷ b ∷ n ∷ t ∷ loss ∷ more ∷ rest) command is = absurd (cc)
+lose_of-to (code ∷ []) command is = absurd (cc)
+lose_of-to (code ∷ loss ∷ []) command is =
+    let same : lose code loss ≡ command = cc in
+    subst (AreItsWords (codes "lose" ∷ code ∷ loss ∷ [])) same (refl, tt)
+lose_of-to (code ∷ loss ∷ more ∷ rest) command is = absurd (cc)
 
 record GenParts (a b c : Option ℕ) (command : Command) : Type 0 where
   seed : ℕ
@@ -370,8 +294,7 @@ channel_of-decimal c is =
     rw (w, b, n, t, channel) refl
 
 pub command_of-words_of : (command : Command) → IsWithinLimits command → command_of (words_of command) ≡ Some command
-command_of-words_of (lose_word c flags) within =
-    rw (channel_of-decimal c within.0, flags_of-characters flags within.1) refl
+command_of-words_of (lose code loss) within = refl
 command_of-words_of (generate seed count size) within =
     let seed_is = number_to-decimal 18446744073709551615 seed (omega arith) within.0 in
     let count_is = number_to-decimal 3999960 count (omega arith) within.1 in

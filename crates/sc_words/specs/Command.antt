@@ -1,12 +1,12 @@
 -- What a command that was read means.
-use Rattle.std.specs.Prelude.{◌≡◌, ◌≤◌, true, map}
+use Rattle.std.specs.Prelude.{◌≤◌}
 use Rattle.sc_words.specs.declared.words.Command.{Command}
-use Rattle.sc_words.specs.declared.words.Command.TheVariants.{LoseWord, Gen, Protect, Check, Bound, Certify, Design}
-use Rattle.sc_words.specs.Words.{Command as Meaning, lose_word, generate, protect, check, bound, certify, design, is_lost, is_loss_word}
+use Rattle.sc_words.specs.declared.words.Command.TheVariants.{Lose, Gen, Protect, Check, Bound, Certify, Design}
+use Rattle.sc_words.specs.Words.{Command as Meaning, lose, generate, protect, check, bound, certify, design}
 
 -- the command that is asked for
 abbrev pub meaning : Command → Meaning
-meaning (LoseWord channel flags) = lose_word channel (map is_lost flags.now)
+meaning (Lose code loss) = lose code.now loss.now
 meaning (Gen seed count size) = generate seed count size
 meaning (Protect code size) = protect code.now size
 meaning (Check code workers) = check code.now workers
@@ -16,7 +16,7 @@ meaning (Design kind channel) = design kind channel
 
 -- the words that a command keeps are of their forms
 abbrev pub HasItsForms : Command → Type 0
-HasItsForms (LoseWord channel flags) = is_loss_word flags.now ≡ true
+HasItsForms (Lose code loss) = Unit {0}
 HasItsForms (Gen seed count size) = (count ≤ 3999960) × (12 ≤ size) × (size ≤ 1472)
 HasItsForms (Protect code size) = (12 ≤ size) × (size ≤ 1472)
 HasItsForms (Check code workers) = (1 ≤ workers) × (workers ≤ 64)

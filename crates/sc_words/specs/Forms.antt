@@ -1,16 +1,10 @@
 -- The one form of words of each command, as it is typed.
-use Rattle.std.specs.Prelude.{ℕ, ◌≤◌, Bool, true, false, List, [], ◌∷◌, codes, length, map}
+use Rattle.std.specs.Prelude.{ℕ, ◌≤◌, List, [], ◌∷◌, codes}
 use Rattle.std.specs.Fmt.{decimal}
 use Rattle.sc_channel.specs.Channel.{IsChannel}
-use Rattle.sc_channel.specs.declared.flags.TheConstants.{MAX_FLAGS}
 use Rattle.sc_words.specs.declared.words.Kind.{Kind}
 use Rattle.sc_words.specs.declared.words.Kind.TheVariants.{Ms, Layered, Optimal}
-use Rattle.sc_words.specs.Words.{Command, lose_word, generate, protect, check, bound, certify, design}
-
--- the character of a flag: 1 (49) where the slot is lost, and else 0 (48)
-abbrev pub character_of : Bool → ℕ
-character_of true = 49
-character_of false = 48
+use Rattle.sc_words.specs.Words.{Command, lose, generate, protect, check, bound, certify, design}
 
 -- the word that names a kind of codes
 abbrev pub kind_word : Kind → List ℕ
@@ -20,8 +14,7 @@ kind_word Optimal = codes "optimal"
 
 -- the words that ask for a command, as bytes; numbers are written as they are printed
 abbrev pub words_of : Command → List (List ℕ)
-words_of (lose_word channel flags) =
-    codes "lose" ∷ decimal channel.w ∷ decimal channel.b ∷ decimal channel.n ∷ decimal channel.t ∷ map character_of flags ∷ []
+words_of (lose code loss) = codes "lose" ∷ code ∷ loss ∷ []
 words_of (generate seed count size) = codes "gen" ∷ decimal seed ∷ decimal count ∷ decimal size ∷ []
 words_of (protect code size) = codes "protect" ∷ code ∷ decimal size ∷ []
 words_of (check code workers) = codes "check" ∷ code ∷ decimal workers ∷ []
@@ -32,7 +25,7 @@ words_of (design kind channel) =
 
 -- the limits of what a command may ask for
 abbrev pub IsWithinLimits : Command → Type 0
-IsWithinLimits (lose_word channel flags) = IsChannel channel × (length flags ≤ MAX_FLAGS)
+IsWithinLimits (lose code loss) = Unit {0}
 IsWithinLimits (generate seed count size) = (seed ≤ 18446744073709551615) × (count ≤ 3999960) × (12 ≤ size) × (size ≤ 1472)
 IsWithinLimits (protect code size) = (12 ≤ size) × (size ≤ 1472)
 IsWithinLimits (check code workers) = (1 ≤ workers) × (workers ≤ 64)

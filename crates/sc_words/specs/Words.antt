@@ -1,10 +1,8 @@
 -- What the words of a command line mean. The forms of the words are of this project.
 use Rattle.std.specs.Prelude.{ℕ, ◌==◌, ◌&&◌, ◌||◌, Bool, List, [], ◌∷◌, Option, Some, None, if◌then◌else◌, codes, length, map, nat_lt, nat_le, slice_index, string_bytes, String}
-use Rattle.std.specs.List.{list_all}
 use Rattle.std.specs.Str.{all_ascii_digits, bytes_eq}
 use Rattle.std.specs.Str.Parse.{digits_value}
 use Rattle.sc_channel.specs.Channel.{ChannelNumbers, is_channel}
-use Rattle.sc_channel.specs.declared.flags.TheConstants.{MAX_FLAGS}
 use Rattle.sc_words.specs.declared.words.Kind.{Kind}
 use Rattle.sc_words.specs.declared.words.Kind.TheVariants.{Ms, Layered, Optimal}
 
@@ -33,24 +31,9 @@ abbrev pub channel_of : List ℕ → List ℕ → List ℕ → List ℕ → Opti
 channel_of w b n t =
     channel_at (number_to 4294967295 w) (number_to 4294967295 b) (number_to 4294967295 n) (number_to 4294967295 t)
 
--- the character 0 (48) is a slot that arrives, and 1 (49) one that is lost
-abbrev pub is_flag : ℕ → Bool
-is_flag character = character == 48 || character == 49
-
-abbrev pub is_lost : ℕ → Bool
-is_lost character = character == 49
-
--- at most as many characters as a loss has flags, each 0 or 1
-unfoldable pub is_loss_word : List ℕ → Bool
-is_loss_word word = nat_le (length word) MAX_FLAGS && list_all is_flag word
-
--- the flags that a loss word writes, one a character
-unfoldable pub flags_of : List ℕ → Option (List Bool)
-flags_of word = if is_loss_word word then Some (map is_lost word) else None
-
 -- what a command line asks for, one constructor a command
 pub data Command : Type 0 where
-  lose_word : ChannelNumbers → List Bool → Command
+  lose : List ℕ → List ℕ → Command
   generate : ℕ → ℕ → ℕ → Command
   protect : List ℕ → ℕ → Command
   check : List ℕ → ℕ → Command
@@ -58,14 +41,9 @@ pub data Command : Type 0 where
   certify : List ℕ → List ℕ → Command
   design : Kind → ChannelNumbers → Command
 
--- the command that a channel and flags ask for, where both are there
-abbrev pub lose_at : Option ChannelNumbers → Option (List Bool) → Option Command
-lose_at (Some channel) (Some flags) = Some (lose_word channel flags)
-lose_at _ _ = None
-
--- W B N T LOSSWORD
+-- CODE LOSS
 abbrev pub lose_of : List (List ℕ) → Option Command
-lose_of (w ∷ b ∷ n ∷ t ∷ loss ∷ []) = lose_at (channel_of w b n t) (flags_of loss)
+lose_of (code ∷ loss ∷ []) = Some (lose code loss)
 lose_of _ = None
 
 -- the command that a seed, a count and a size of at least 12 ask for, where all are there

@@ -5,4 +5,4 @@ mod word_laws;
 mod words;
 
 pub use word_laws::{one_form, one_numeral};
-pub use words::{Command, Kind, is_loss_word, read_loss_word, read_words};
+pub use words::{Command, Kind, read_words};

@@ -1,13 +1,11 @@
 //! The words of the command line.
 
-ghost use Rattle.std.specs.Prelude.{◌≡◌, ◌≤◌, true, Some, IfOk, IfSome, map};
+ghost use Rattle.std.specs.Prelude.{◌≡◌, ◌≤◌, IfSome};
 ghost use Rattle.std.specs.Option.{option_map};
-ghost use Rattle.sc_words.specs.Words.{number_to, begins_plain, channel_of, is_lost, flags_of, is_loss_word, lose_of, gen_of, protect_of, check_of, bound_of, certify_of, kind_of, design_of, command_of, texts};
+ghost use Rattle.sc_words.specs.Words.{number_to, begins_plain, channel_of, lose_of, gen_of, protect_of, check_of, bound_of, certify_of, kind_of, design_of, command_of, texts};
 ghost use Rattle.sc_words.specs.Command.{meaning, HasItsForms};
 
-use sc_channel::{Channel, Flags, MAX_FLAGS};
-use sc_outside::NoMemory;
-use std::alloc::Global;
+use sc_channel::Channel;
 
 /// The most records of a generated capture.
 const MAX_COUNT: u32 = 3_999_960;
@@ -34,12 +32,12 @@ pub enum Kind {
 /// What a command line asks for. The forms of the words are of this project.
 #[derive(Copy, Clone, Debug, PartialEq, Eq)]
 pub enum Command<'a> {
-    /// `lose W B N T LOSSWORD`: copy a capture without its lost records.
-    LoseWord {
-        /// The channel that the loss has to be admissible for.
-        channel: Channel,
-        /// The loss word: 0 to 4,000,000 characters, one a record, `1` where it is lost, else `0`.
-        flags: &'a str,
+    /// `lose CODE LOSS`: copy a capture without its lost records.
+    Lose {
+        /// The name of the file of a code, for whose channel the loss has to be admissible.
+        code: &'a str,
+        /// The name of the loss's file.
+        loss: &'a str,
     },
     /// `gen SEED COUNT SIZE`: write a generated capture.
     Gen {
@@ -88,11 +86,10 @@ pub enum Command<'a> {
 /// The command whose form the words have, the command's name first, and `None` exactly where they
 /// have no form. It takes no memory.
 ///
-/// The forms are `lose W B N T LOSSWORD`, `gen SEED COUNT SIZE`, `protect CODE SIZE`, `check CODE WORKERS`, `bound W B N T`,
+/// The forms are `lose CODE LOSS`, `gen SEED COUNT SIZE`, `protect CODE SIZE`, `check CODE WORKERS`, `bound W B N T`,
 /// `certify CODE CERT` and `design KIND W B N T`. Numbers are decimal, without sign and without a leading zero. W, B, N and T
-/// are a channel; the loss word is 0 to 4,000,000 characters `0` and `1`. The seed has at most 64 bits, the count is at most
-/// 3,999,960, a size is 12 to 1,472, and there are 1 to 64 workers. A kind is `ms`, `layered` or `optimal`. A file's name is
-/// any word. The forms are of this project.
+/// are a channel. The seed has at most 64 bits, the count is at most 3,999,960, a size is 12 to 1,472, and there are 1 to 64
+/// workers. A kind is `ms`, `layered` or `optimal`. A file's name is any word. The forms are of this project.
 pub fn read_words(words: &Vec<String>) -> Option<Command<'_>>
     ensures command { command_of (texts words.now.items) ≡ option_map meaning result }
     ensures forms { IfSome result HasItsForms }
@@ -115,14 +112,10 @@ fn read_lose(words: &[String]) -> Option<Command<'_>>
     ensures forms { IfSome result HasItsForms }
 {
     match words {
-        [w, b, n, t, loss] => {
-            let flags = loss.as_str();
-            let channel = read_channel(w.as_str(), b.as_str(), n.as_str(), t.as_str())?;
-            if is_loss_word(flags) {
-                Some(Command::LoseWord { channel, flags })
-            } else {
-                None
-            }
+        [code, loss] => {
+            let code = code.as_str();
+            let loss = loss.as_str();
+            Some(Command::Lose { code, loss })
         }
         _ => None,
     }
@@ -280,31 +273,9 @@ fn begins_plain(word: &str) -> bool
     }
 }
 
-/// Whether a word is a loss word: at most 4,000,000 characters, each `0` or `1`. One pass.
-#[tactic(auto, unfolding(crate::specs::Words::is_loss_word))]
-pub fn is_loss_word(word: &str) -> bool
-    ensures { result ≡ is_loss_word word.now }
-{
-    word.len() <= MAX_FLAGS && word.bytes().all(|byte| byte == b'0' || byte == b'1')
-}
-
-/// The flags of a loss word, one a character, set where it is `1`. `Err` only for want of memory,
-/// all of which is taken before the first flag.
-pub fn read_loss_word(alloc: Global, word: &str) -> Result<Flags, NoMemory>
-    requires { is_loss_word word.now ≡ true }
-    ensures flags { IfOk result (λ flags. flags_of word.now ≡ Some flags) }
-    ensures each { IfOk result (λ flags. flags ≡ map is_lost word.now) }
-{
-    let mut flags = Vec::with_capacity(alloc, word.len())?;
-    for byte in word.as_bytes() {
-        flags.push(*byte == b'1')?;
-    }
-    Ok(Flags::from_vec(flags))
-}
-
 #[cfg(test)]
 mod tests {
-    use super::{Command, Kind, is_loss_word, number_word, read_loss_word, read_words};
+    use super::{Command, Kind, number_word, read_words};
     use crate::word_laws::{one_form, one_numeral};
     use std::alloc::{AllocError, Global};
     use std::test::Fail;
@@ -317,45 +288,29 @@ mod tests {
         Ok(words)
     }
 
-    /// Whether the words of a line are `lose` with these numbers and this loss word, or, where it
-    /// is `None`, no form.
-    fn reads_as(
-        alloc: Global,
-        line: &str,
-        numbers: (u32, u32, u32, u32),
-        want: Option<&str>,
-    ) -> Result<bool, AllocError> {
-        let words = words_of(alloc, line)?;
-        Ok(match read_words(&words) {
-            Some(command) => match command {
-                Command::LoseWord { channel, flags } => {
-                    let read = (channel.w(), channel.b(), channel.n(), channel.t());
-                    read == numbers && want == Some(flags)
-                }
-                _ => false,
-            },
-            None => want.is_none(),
-        })
-    }
-
     #[test]
-    fn reads_the_forms_of_words(rt: HostRuntime) -> Result<(), Fail> {
+    fn reads_the_forms_of_lose(rt: HostRuntime) -> Result<(), Fail> {
         for (line, want) in [
-            ("lose 3 2 1 2 010", Some("010")),
-            ("lose 3 2 1 2 ", Some("")),
-            ("lose 3 2 1 2", None),
-            ("lose 3 2 1 2 0 1", None),
-            ("lose 3 2 1 3 0", None),
-            ("lose 256 2 1 2 0", None),
-            ("lose 03 2 1 2 0", None),
-            ("lose +3 2 1 2 0", None),
-            ("lose 4294967299 2 1 2 0", None),
-            ("lose 3 2 1 2 012", None),
-            ("Lose 3 2 1 2 0", None),
-            ("gen 3 2 1 2 0", None),
+            ("lose code.json loss.json", Some(("code.json", "loss.json"))),
+            ("lose  ", Some(("", ""))),
+            ("lose 3 2", Some(("3", "2"))),
+            ("lose 3 2 1 2 010", None),
+            ("lose 3 2 1 2 ", None),
+            ("lose 3", None),
+            ("lose", None),
+            ("lose a b c", None),
+            ("Lose a b", None),
+            ("gen a b", None),
             ("", None),
         ] {
-            let right = reads_as(rt.alloc(), line, (3, 2, 1, 2), want)?;
+            let words = words_of(rt.alloc(), line)?;
+            let right = match read_words(&words) {
+                Some(command) => match command {
+                    Command::Lose { code, loss } => want == Some((code, loss)),
+                    _ => false,
+                },
+                None => want.is_none(),
+            };
             assert!(rt; right, "at {line}");
         }
         Ok(())
@@ -552,14 +507,5 @@ mod tests {
         ] {
             assert_eq!(rt; number_word(word, most), want, "at {word}");
         }
-    }
-
-    #[test]
-    fn reads_a_loss_word(rt: HostRuntime) -> Result<(), Fail> {
-        let word = "010";
-        assert!(rt; is_loss_word(word));
-        let flags = read_loss_word(rt.alloc(), word)?;
-        assert_eq!(rt; flags.as_slice(), [false, true, false].as_slice());
-        Ok(())
     }
 }

@@ -1,7 +1,7 @@
 -- What the jobs of the program's commands keep, and how they end.
 use Rattle.std.proofs.lemmas.Bool.Decides.{nat_tests}
 use Rattle.std.proofs.Common.{zero, suc, ◌+◌, is_none, ◌≡◌, ◌∷◌, ◌++◌, ◌≢◌, ◌⊎◌, inl, inr, ℕ, ◌<◌, ◌≤◌, ◌∙◌, Bool, true, false, cond, nat_lt, Option, None, Some, List, [], length, Result, Ok, Err, refl, sym, ap, subst, arith}
-use Rattle.sc_outside.specs.Ends.{Job, told_as, IsJob, input, write, Ends}
+use Rattle.sc_outside.specs.Ends.{Job, IsJob, input, write, Ends}
 use Rattle.sc_outside.specs.Whole.{PutsAll, WriteFailed}
 use Rattle.sc_outside.specs.Port.{Told}
 use Rattle.sc_outside.proofs.EndsLaws.{Ends-at_once, Ends-no_memory, Ends-told_as, IsJob-told_as, IsJob-at_once, IsPrefix-nil, some_left}
@@ -318,12 +318,6 @@ giving_cut end text old new h = record {
 }
 
 -- ---- how `lose` ends
-lose_by_memory : (window : Option ℕ) (flags : List Bool) (told : Told) → Ends (lose_by window flags) told told NoMemory
-lose_by_memory (Some window) flags told = Ends-no_memory (refusal true (LossRefused window)) told refl
-lose_by_memory None flags told = Ends-no_memory (told_as (end_of_drop (length flags)) (thinning flags)) told refl
-
-pub lose_memory : (channel : ChannelNumbers) (flags : List Bool) (told : Told) → Ends (lose_job channel flags) told told NoMemory
-lose_memory channel flags told = lose_by_memory (bad_window channel flags) flags told
 
 pub lose_refused : (channel : ChannelNumbers) (flags : List Bool) (told : Told) (window : ℕ) → bad_window channel flags ≡ Some window → Ends (lose_job channel flags) told told (LossRefused window)
 lose_refused channel flags told window e =

@@ -7,17 +7,17 @@ use Rattle.sc_outside.specs.Port.{Told}
 use Rattle.sc_outside.proofs.EndsLaws.{Ends-due, Ends-prefix, IsPrefix-nil}
 use Rattle.sc_outside.proofs.MovesLaws.{Moves-none}
 use Rattle.sc_codefile.specs.declared.fault.FileFault.{FileFault}
-use Rattle.sc_codefile.specs.Reading.{code_reading, certificate_reading}
+use Rattle.sc_codefile.specs.Reading.{code_reading, certificate_reading, loss_reading}
 use Rattle.streamcode.specs.declared.end.Role.{Role}
-use Rattle.streamcode.specs.declared.end.Role.TheVariants.{Code, Certificate}
+use Rattle.streamcode.specs.declared.end.Role.TheVariants.{Code, Certificate, Loss}
 use Rattle.streamcode.specs.declared.end.End.{End}
 use Rattle.streamcode.specs.declared.end.End.TheVariants.{FileTooLong, Usage, ReadFault}
 use Rattle.streamcode.specs.End.{status_of}
-use Rattle.streamcode.specs.Files.{by_reading, by_bytes, certificate_plan}
-use Rattle.streamcode.specs.Jobs.{refusal, protect_job, check_job, certify_job}
+use Rattle.streamcode.specs.Files.{by_reading, by_bytes, certificate_plan, loss_plan}
+use Rattle.streamcode.specs.Jobs.{refusal, lose_job, protect_job, check_job, certify_job}
 use Rattle.streamcode.specs.Plans.{Plan, owes, fetches, most_fetched, due_by, due_of, PlanEnds, IsSilentPlan, LacksOne}
 use Rattle.streamcode.specs.Runs.{command_plan, files_of, IsDueStatus, ReadRose, IsOutsideStatus, IsQuiet}
-use Rattle.sc_words.specs.Words.{Command, lose_word, generate, protect, check, bound, certify, design}
+use Rattle.sc_words.specs.Words.{Command, lose, generate, protect, check, bound, certify, design}
 use Rattle.streamcode.proofs.JobLaws.{not_inside, of_input_inside, IsRunJob, IsProgramJob, refusal-is, lose_job-is, gen_job-is, protect_job-is, check_job-is, bound_job-is, certify_job-is, design_job-is, file_refused-is, file_too_long-is}
 
 -- ---- what the plans of commands keep
@@ -58,7 +58,11 @@ module _ {A : Type 0} (role : Role) (reading : List ℕ → Result A FileFault) 
   bytes_plan bytes = bytes_plan_by bytes (nat_lt (length bytes) most_fetched)
 
 program_plan : (command : Command) → IsProgramPlan (files_of (Some command)) (command_plan (Some command))
-program_plan (lose_word channel flags) = lose_job-is channel flags
+program_plan (lose code loss) = (
+  inl refl,
+  bytes_plan Code code_reading (code ∷ loss ∷ []) (λ file. loss_plan loss (λ flags. owes (lose_job file.channel flags)))
+      (λ file. (inr (inl refl), bytes_plan Loss loss_reading (code ∷ loss ∷ []) (λ flags. owes (lose_job file.channel flags)) (λ flags. lose_job-is file.channel flags))),
+)
 program_plan (generate seed count size) = gen_job-is seed count size
 program_plan (protect code size) = (inl refl, bytes_plan Code code_reading (code ∷ []) (λ file. owes (protect_job file size)) (λ file. protect_job-is file size))
 program_plan (check code workers) = (inl refl, bytes_plan Code code_reading (code ∷ []) (λ file. owes (check_job file)) (λ file. check_job-is file))

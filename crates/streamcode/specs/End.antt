@@ -17,7 +17,7 @@ use Rattle.sc_slots.specs.declared.protect.Protected.{Protected as Done}
 use Rattle.sc_optimal.specs.declared.kind.DesignFault.{DesignFault}
 use Rattle.sc_optimal.specs.declared.kind.DesignFault.TheVariants as design
 use Rattle.streamcode.specs.declared.end.Role.{Role}
-use Rattle.streamcode.specs.declared.end.Role.TheVariants.{Code, Certificate}
+use Rattle.streamcode.specs.declared.end.Role.TheVariants.{Code, Certificate, Loss as ALoss}
 use Rattle.streamcode.specs.declared.end.End.{End}
 use Rattle.streamcode.specs.declared.end.End.TheVariants.{Thinned, Generated, Protected, Bound, Designed, Accepted, Refused, CertificateRefused, LossRefused, Usage, Capture, MoreRecords, FewerRecords, FileRefused, FileTooLong, PacketTooWide, PacketTooLong, TooManyRecords, TooManySlots, TooManySymbols, NoCode, TooManyClasses, ReadFault, WriteFault, NoMemory}
 
@@ -62,6 +62,7 @@ fault_text Memory = codes "no memory"
 abbrev pub role_text : Role → List ℕ
 role_text Code = codes "code"
 role_text Certificate = codes "certificate"
+role_text ALoss = codes "loss"
 
 abbrev pub key_text : Key → List ℕ
 key_text Whole = codes "whole"

@@ -1,12 +1,12 @@
 -- What a run owes by the bytes of a file that was fetched.
-use Rattle.std.specs.Prelude.{◌≡◌, ◌⊎◌, ℕ, ◌<◌, ◌≤◌, true, List, length, nat_lt, if◌then◌else◌, Result, Ok, Err}
+use Rattle.std.specs.Prelude.{◌≡◌, ◌⊎◌, ℕ, ◌<◌, ◌≤◌, Bool, true, List, length, nat_lt, if◌then◌else◌, Result, Ok, Err}
 use Rattle.sc_outside.specs.Cabinet.{CabinetTold, Fetched}
 use Rattle.sc_channel.specs.Certificate.{CertificateNumbers}
 use Rattle.sc_code.specs.declared.code.CodeFile.{CodeFile}
 use Rattle.sc_codefile.specs.declared.fault.FileFault.{FileFault}
-use Rattle.sc_codefile.specs.Reading.{code_reading, certificate_reading}
+use Rattle.sc_codefile.specs.Reading.{code_reading, certificate_reading, loss_reading}
 use Rattle.streamcode.specs.declared.end.Role.{Role}
-use Rattle.streamcode.specs.declared.end.Role.TheVariants.{Code, Certificate}
+use Rattle.streamcode.specs.declared.end.Role.TheVariants.{Code, Certificate, Loss}
 use Rattle.streamcode.specs.declared.end.End.{End}
 use Rattle.streamcode.specs.declared.end.End.TheVariants.{FileRefused, FileTooLong}
 use Rattle.streamcode.specs.Jobs.{refusal}
@@ -53,15 +53,21 @@ module _ {A : Type 0} (role : Role) (reading : List ℕ → Result A FileFault) 
   Came old new name (Err end) =
       FetchEnds old new name end ⊎ ((bytes : List ℕ) × Fetched old new name most_fetched bytes × IsRefusedBy bytes end)
 
--- the file of a code, and that of a certificate
+-- the file of a code, that of a certificate, and that of a loss
 abbrev pub code_plan : List ℕ → (CodeFile → Plan) → Plan
 code_plan = file_plan Code code_reading
 
 abbrev pub certificate_plan : List ℕ → (CertificateNumbers → Plan) → Plan
 certificate_plan = file_plan Certificate certificate_reading
 
+abbrev pub loss_plan : List ℕ → (List Bool → Plan) → Plan
+loss_plan = file_plan Loss loss_reading
+
 abbrev pub CodeCame : CabinetTold → CabinetTold → List ℕ → Result CodeFile End → Type 0
 CodeCame = Came Code code_reading
 
 abbrev pub CertificateCame : CabinetTold → CabinetTold → List ℕ → Result CertificateNumbers End → Type 0
 CertificateCame = Came Certificate certificate_reading
+
+abbrev pub LossCame : CabinetTold → CabinetTold → List ℕ → Result (List Bool) End → Type 0
+LossCame = Came Loss loss_reading

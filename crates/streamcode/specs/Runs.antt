@@ -11,13 +11,13 @@ use Rattle.streamcode.specs.declared.end.End.TheVariants.{Usage}
 use Rattle.streamcode.specs.End.{status_of, note_of, IsTold}
 use Rattle.streamcode.specs.Jobs.{refusal, lose_job, gen_job, protect_job, check_job, bound_job, certify_job, design_job}
 use Rattle.streamcode.specs.Plans.{Plan, owes, PlanEnds}
-use Rattle.streamcode.specs.Files.{code_plan, certificate_plan}
-use Rattle.sc_words.specs.Words.{Command, lose_word, generate, protect, check, bound, certify, design, command_of}
+use Rattle.streamcode.specs.Files.{code_plan, certificate_plan, loss_plan}
+use Rattle.sc_words.specs.Words.{Command, lose, generate, protect, check, bound, certify, design, command_of}
 
 -- what is owed by a command
 abbrev pub command_plan : Option Command → Plan
 command_plan None = owes (refusal false Usage)
-command_plan (Some (lose_word channel flags)) = owes (lose_job channel flags)
+command_plan (Some (lose code loss)) = code_plan code (λ file. loss_plan loss (λ flags. owes (lose_job file.channel flags)))
 command_plan (Some (generate seed count size)) = owes (gen_job seed count size)
 command_plan (Some (protect code size)) = code_plan code (λ file. owes (protect_job file size))
 command_plan (Some (check code workers)) = code_plan code (λ file. owes (check_job file))
@@ -28,7 +28,7 @@ command_plan (Some (design kind channel)) = owes (design_job kind channel)
 -- the files that a command names, in the order of its words
 abbrev pub files_of : Option Command → List (List ℕ)
 files_of None = []
-files_of (Some (lose_word channel flags)) = []
+files_of (Some (lose code loss)) = code ∷ loss ∷ []
 files_of (Some (generate seed count size)) = []
 files_of (Some (protect code size)) = code ∷ []
 files_of (Some (check code workers)) = code ∷ []

@@ -6,7 +6,7 @@ use Rattle.sc_channel.specs.Classes.{class_count}
 use Rattle.sc_code.specs.Code.{Code}
 use Rattle.sc_code.specs.declared.code.CodeFile.{CodeFile}
 use Rattle.sc_check.specs.Answer.{Refuted}
-use Rattle.sc_words.specs.Forms.{character_of}
+use Rattle.sc_codefile.specs.LossFile.{flags_text}
 use Rattle.streamcode.specs.declared.end.End.{End}
 use Rattle.streamcode.specs.declared.end.End.TheVariants.{Accepted, Refused}
 
@@ -45,7 +45,7 @@ meets_text file =
 -- are alike in every slot that the loss keeps. The second is zero.
 abbrev pub fails_text : ℕ → Refuted → List ℕ
 fails_text k refuted =
-    (codes "fails class " ++ decimal refuted.index ++ codes "\nloss " ++ map character_of refuted.class)
+    (codes "fails class " ++ decimal refuted.index ++ codes "\nloss " ++ flags_text refuted.class)
     ++ (codes "\nstream " ++ stream_text refuted.stream)
     ++ (codes "\nother " ++ stream_text (replicate (length refuted.stream) (replicate k 0)) ++ 10 ∷ [])
 

@@ -14,6 +14,8 @@ pub enum Role {
     Code,
     /// A certificate.
     Certificate,
+    /// A loss.
+    Loss,
 }
 
 /// How a run ends, by its cause. Commands share the ends that they have in common.

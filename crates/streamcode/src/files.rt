@@ -1,11 +1,12 @@
 //! The files that the words name.
-ghost use Rattle.std.specs.Prelude.{IfOk, IfErr};
-ghost use Rattle.streamcode.specs.Files.{BytesCame, BytesLack, CodeCame, CertificateCame};
+ghost use Rattle.std.specs.Prelude.{◌≤◌, IfOk, IfErr, length};
+ghost use Rattle.sc_channel.specs.declared.flags.TheConstants.{MAX_FLAGS};
+ghost use Rattle.streamcode.specs.Files.{BytesCame, BytesLack, CodeCame, CertificateCame, LossCame};
 
 use crate::end::{End, Role};
-use sc_channel::Certificate;
+use sc_channel::{Certificate, Flags};
 use sc_code::CodeFile;
-use sc_codefile::{read_certificate, read_code};
+use sc_codefile::{read_certificate, read_code, read_loss};
 use sc_outside::{Cabinet, FetchFault};
 use std::alloc::Global;
 
@@ -60,5 +61,21 @@ pub(crate) fn fetch_certificate<C: Cabinet>(
     match read_certificate(alloc, text.as_slice()) {
         Ok(certificate) => Ok(certificate),
         Err(fault) => Err(End::of_file(Role::Certificate, fault)),
+    }
+}
+
+/// The loss of the file of this name, or how the run ends without it.
+pub(crate) fn fetch_loss<C: Cabinet>(
+    alloc: Global,
+    cabinet: &mut C,
+    name: &str,
+) -> Result<Flags, End>
+    ensures came { LossCame (C.told cabinet.old) (C.told cabinet.new) name.now result }
+    ensures limit { IfOk result (λ flags. length flags ≤ MAX_FLAGS) }
+{
+    let text = fetch_text(alloc, cabinet, name, Role::Loss)?;
+    match read_loss(alloc, text.as_slice()) {
+        Ok(flags) => Ok(flags),
+        Err(fault) => Err(End::of_file(Role::Loss, fault)),
     }
 }

@@ -78,6 +78,7 @@ fn role_word(role: Role) -> &'static str
     match role {
         Role::Code => "code",
         Role::Certificate => "certificate",
+        Role::Loss => "loss",
     }
 }
 

@@ -35,7 +35,7 @@ fn perform<R: Threads + Sync, C: Cabinet, P: Port, G: Gate + Sync>(
         port.old port.new result }
 {
     match command {
-        Command::LoseWord { channel, flags } => lose(alloc, channel, flags, port),
+        Command::Lose { code, loss } => lose(alloc, code, loss, cabinet, port),
         Command::Gen { seed, count, size } => generate(alloc, seed, count, size, port),
         Command::Protect { code, size } => protect(alloc, code, size, cabinet, port),
         Command::Bound { channel } => bound(alloc, channel, port),

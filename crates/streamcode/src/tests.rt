@@ -1,7 +1,8 @@
 //! Whole runs over objects in memory. What is wanted is written out by hand from the format.
 mod checking;
+mod losing;
 
-use super::{End, Role, conclude, lose_is_thinning, run};
+use super::{End, Role, conclude, run};
 use sc_check::NoGate;
 use sc_codefile::{FileFault, Key};
 use sc_outside::{MemoryCabinet, MemoryPort, MemorySink};
@@ -15,14 +16,7 @@ use std::thread::Threads;
 const PREAMBLE: &[u8] =
     b"#!rtpplay1.0 127.0.0.1/5004\n\x00\x00\x00\x00\x00\x00\x00\x00\x7f\x00\x00\x01\x13\x8c\x00\x00";
 
-/// Three records of one byte each.
-const FIRST: &[u8] = b"\x00\x09\x00\x01\x00\x00\x00\x00\xaa";
-
-const SECOND: &[u8] = b"\x00\x09\x00\x01\x00\x00\x00\x14\xbb";
-
-const THIRD: &[u8] = b"\x00\x09\x00\x01\x00\x00\x00\x28\xcc";
-
-/// The second record without its body.
+/// The head of a record of one byte.
 const HEAD: &[u8] = b"\x00\x09\x00\x01\x00\x00\x00\x14";
 
 /// The preamble without its last byte.
@@ -56,6 +50,20 @@ fn one_file(alloc: Global, name: &str, text: &[u8]) -> Result<MemoryCabinet, All
     files.push((
         String::from_str(alloc, name)?,
         Vec::from_slice(alloc, text)?,
+    ))?;
+    Ok(MemoryCabinet::new(files, Vec::new(alloc)))
+}
+
+/// A cabinet with two files, `c` and `d`.
+fn two_files(alloc: Global, first: &[u8], second: &[u8]) -> Result<MemoryCabinet, AllocError> {
+    let mut files = Vec::new(alloc);
+    files.push((
+        String::from_str(alloc, "c")?,
+        Vec::from_slice(alloc, first)?,
+    ))?;
+    files.push((
+        String::from_str(alloc, "d")?,
+        Vec::from_slice(alloc, second)?,
     ))?;
     Ok(MemoryCabinet::new(files, Vec::new(alloc)))
 }
@@ -107,85 +115,6 @@ fn answer_by<R: Threads + Sync>(
     })
 }
 
-#[test]
-fn lose_thins_and_refuses(rt: HostRuntime) -> Result<(), Fail> {
-    let all: &[&[u8]] = &[PREAMBLE, FIRST, SECOND, THIRD];
-    let two: &[&[u8]] = &[PREAMBLE, FIRST, SECOND];
-    let one: &[&[u8]] = &[PREAMBLE, FIRST];
-    let cut: &[&[u8]] = &[PREAMBLE, FIRST, HEAD];
-    let bare: &[&[u8]] = &[SHORT];
-    let kept: &[&[u8]] = &[PREAMBLE, FIRST, THIRD];
-    let none: &[&[u8]] = &[PREAMBLE];
-    let nothing: &[&[u8]] = &[];
-    for (line, input, status, given, note) in [
-        ("lose 3 2 1 2 010", all, 0, kept, "records 3 lost 1\n"),
-        (
-            "lose 3 2 1 2 101",
-            all,
-            1,
-            nothing,
-            "loss refused at window 0\n",
-        ),
-        ("lose 3 2 1 2 11", two, 0, none, "records 2 lost 2\n"),
-        ("lose 3 2 1 2 01", all, 3, one, "flags 2 more records\n"),
-        ("lose 3 2 1 2 01", one, 3, one, "flags 2 records 1\n"),
-        ("lose 3 2 1 2 00", cut, 3, one, "record 1 cut\n"),
-        ("lose 3 2 1 2 00", bare, 3, nothing, "preamble\n"),
-        ("lose 3 2 1 2 2", one, 2, nothing, "usage\n"),
-    ] {
-        let answer = answer_of(&rt, rt.alloc(), line, input, 1000, 1000)?;
-        let given = joined(rt.alloc(), given)?;
-        assert_eq!(rt; answer.status, status, "{line}");
-        assert_eq!(rt; answer.given.as_slice(), given.as_slice(), "{line}");
-        assert_eq!(rt; answer.note.as_slice(), note.as_bytes(), "{line}");
-    }
-    Ok(())
-}
-
-// One record of no body with this offset.
-fn empty_record(offset: u32) -> [u8; 8] {
-    let [a, b, c, d] = offset.to_be_bytes();
-    [0, 8, 0, 0, a, b, c, d]
-}
-
-#[test]
-fn thins_three_thousand_records(rt: HostRuntime) -> Result<(), Fail> {
-    let mut line = String::from_str(rt.alloc(), "lose 40 10 4 20 ")?;
-    let mut input = joined(rt.alloc(), &[PREAMBLE])?;
-    let mut kept = joined(rt.alloc(), &[PREAMBLE])?;
-    for i in 0..3000u32 {
-        let record = empty_record(i);
-        input.extend_from_slice(&record)?;
-        // A burst of ten every hundred records.
-        if i % 100 < 10 {
-            line.push('1')?;
-        } else {
-            line.push('0')?;
-            kept.extend_from_slice(&record)?;
-        }
-    }
-    let words = words_of(rt.alloc(), line.as_str())?;
-    let fails = Vec::new(rt.alloc());
-    let mut port = MemoryPort::new(rt.alloc(), input, 100_000, 10_000, 65_536, fails)?;
-    let mut notes = MemorySink::new(rt.alloc(), 128, Vec::new(rt.alloc()))?;
-    let mut cabinet = no_files(rt.alloc());
-    assert_eq!(rt;
-        run(
-            &rt,
-            rt.alloc(),
-            &words,
-            &mut cabinet,
-            &mut port,
-            &mut notes,
-            &NoGate
-        ),
-        0
-    );
-    assert!(rt; port.given() == kept.as_slice());
-    assert_eq!(rt; notes.given(), b"records 3000 lost 300\n".as_slice());
-    Ok(())
-}
-
 // Each end with its status and its note, as the program's page has them.
 #[test]
 fn every_end_has_its_note(rt: HostRuntime) -> Result<(), Fail> {
@@ -221,7 +150,13 @@ fn every_end_has_its_note(rt: HostRuntime) -> Result<(), Fail> {
             3,
             "code range channel\n",
         ),
+        (
+            End::FileRefused(Role::Loss, FileFault::Range(Key::Loss)),
+            3,
+            "loss range loss\n",
+        ),
         (End::FileTooLong(Role::Code), 4, "code limit 4194305\n"),
+        (End::FileTooLong(Role::Loss), 4, "loss limit 4194305\n"),
         (End::PacketTooWide(94_616), 4, "limit packet 94616\n"),
         (End::PacketTooLong(7, 1473), 4, "limit size 7 1473\n"),
         (
@@ -278,33 +213,6 @@ fn every_end_has_its_note(rt: HostRuntime) -> Result<(), Fail> {
             let printed = format!(in rt.alloc(); "{fault}\n")?;
             assert_eq!(rt; printed.as_str(), note);
         }
-    }
-    lose_is_thinning();
-    Ok(())
-}
-
-#[test]
-fn faults_of_the_port_are_told(rt: HostRuntime) -> Result<(), Fail> {
-    let all: &[&[u8]] = &[PREAMBLE, FIRST, SECOND, THIRD];
-    let whole = joined(rt.alloc(), &[PREAMBLE, FIRST, THIRD])?;
-    // In pieces of 7 bytes, 20 calls read the preamble, byte by byte within its line, and the next 7 write it. Then 3 read
-    // each record, and what waits is written last. Of the bytes due so many are given.
-    for (room, fail, status, note, given) in [
-        (1000, 0, 7, "read fault\n", 0),
-        (1000, 19, 7, "read fault\n", 0),
-        (1000, 20, 8, "write fault\n", 0),
-        (1000, 22, 8, "write fault\n", 14),
-        (1000, 27, 7, "read fault\n", 44),
-        (1000, 29, 7, "read fault\n", 44),
-        (1000, 30, 7, "read fault\n", 53),
-        (1000, 35, 7, "read fault\n", 53),
-        (50, 1000, 8, "write fault\n", 50),
-    ] {
-        let answer = answer_of(&rt, rt.alloc(), "lose 3 2 1 2 010", all, room, fail)?;
-        assert_eq!(rt; answer.status, status, "{room} {fail}");
-        assert_eq!(rt; answer.note.as_slice(), note.as_bytes());
-        assert!(rt; whole.as_slice().starts_with(answer.given.as_slice()));
-        assert_eq!(rt; answer.given.len(), given, "{room} {fail}");
     }
     Ok(())
 }

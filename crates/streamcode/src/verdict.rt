@@ -1,10 +1,10 @@
 //! What `check` prints.
-ghost use Rattle.std.specs.Prelude.{◌≡◌, ◌<◌, ◌≤◌, ◌+◌, ◌++◌, [], All, replicate, IfOk, OnOk, length, map, string_bytes, slice_index_or};
+ghost use Rattle.std.specs.Prelude.{◌≡◌, ◌<◌, ◌≤◌, ◌+◌, ◌++◌, [], All, replicate, IfOk, OnOk, length, string_bytes, slice_index_or};
 ghost use Rattle.std.specs.Fmt.{decimal};
 ghost use Rattle.sc_channel.specs.Classes.{class_count};
 ghost use Rattle.sc_check.specs.Answer.{told_by};
 ghost use Rattle.sc_check.specs.Verdict.{IsVerdict};
-ghost use Rattle.sc_words.specs.Forms.{character_of};
+ghost use Rattle.sc_codefile.specs.LossFile.{flags_text};
 ghost use Rattle.streamcode.specs.Verdict.{block_text, stream_text, channel_text, rate_text, meets_text, fails_text, verdict_text, separator};
 
 use itoa::Buffer;
@@ -100,7 +100,7 @@ fn push_stream(text: &mut String, stream: &Stream, k: usize) -> Result<(), NoMem
 
 /// Puts flags behind a text, `1` where one is set and else `0`.
 fn push_flags(text: &mut String, flags: &Flags) -> Result<(), NoMemory>
-    ensures { OnOk result (string_bytes text.new ≡ string_bytes text.old ++ map character_of flags.now) }
+    ensures { OnOk result (string_bytes text.new ≡ string_bytes text.old ++ flags_text flags.now) }
 {
     for flag in flags.as_slice() {
         text.push(if *flag { '1' } else { '0' })?;

@@ -1,9 +1,8 @@
 //! Whole runs of `check`. What is wanted is written out by hand from the definitions.
-use super::{answer_by, one_file, words_of};
+use super::{answer_by, one_file, two_files, words_of};
 use crate::{certify_is_bounding, check_is_meeting, run};
 use sc_check::Gate;
-use sc_outside::{MemoryCabinet, MemoryPort, MemorySink};
-use std::alloc::Global;
+use sc_outside::{MemoryPort, MemorySink};
 use std::sync::atomic::{AtomicU64, Ordering};
 use std::test::Fail;
 
@@ -107,14 +106,6 @@ fn check_stops_at_a_failed_write(rt: HostRuntime) -> Result<(), Fail> {
         );
     }
     Ok(())
-}
-
-/// A cabinet with a code's file and a certificate's.
-fn two_files(alloc: Global, code: &[u8], cert: &[u8]) -> Result<MemoryCabinet, Fail> {
-    let mut files = Vec::new(alloc);
-    files.push((String::from_str(alloc, "c")?, Vec::from_slice(alloc, code)?))?;
-    files.push((String::from_str(alloc, "d")?, Vec::from_slice(alloc, cert)?))?;
-    Ok(MemoryCabinet::new(files, Vec::new(alloc)))
 }
 
 #[test]

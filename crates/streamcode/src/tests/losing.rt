@@ -1,0 +1,201 @@
+//! Whole runs of `lose`. What is wanted is written out by hand from the format.
+use super::{Answer, CODE, HEAD, PREAMBLE, SHORT, answer_by, joined, two_files, words_of};
+use crate::{lose_is_thinning, run};
+use sc_check::NoGate;
+use sc_outside::{MemoryPort, MemorySink};
+use std::alloc::Global;
+use std::test::Fail;
+use std::thread::Threads;
+
+/// Three records of one byte each.
+const FIRST: &[u8] = b"\x00\x09\x00\x01\x00\x00\x00\x00\xaa";
+
+const SECOND: &[u8] = b"\x00\x09\x00\x01\x00\x00\x00\x14\xbb";
+
+const THIRD: &[u8] = b"\x00\x09\x00\x01\x00\x00\x00\x28\xcc";
+
+/// Runs `lose` over an input, where this is the loss's file.
+fn lose_by<R: Threads + Sync>(
+    rt: &R,
+    alloc: Global,
+    loss: &[u8],
+    input: &[&[u8]],
+    room: usize,
+    fail: u32,
+) -> Result<Answer, Fail> {
+    let mut cabinet = two_files(alloc, CODE, loss)?;
+    answer_by(rt, alloc, "lose c d", &mut cabinet, input, room, fail)
+}
+
+#[test]
+fn lose_thins_and_refuses(rt: HostRuntime) -> Result<(), Fail> {
+    let all: &[&[u8]] = &[PREAMBLE, FIRST, SECOND, THIRD];
+    let two: &[&[u8]] = &[PREAMBLE, FIRST, SECOND];
+    let one: &[&[u8]] = &[PREAMBLE, FIRST];
+    let cut: &[&[u8]] = &[PREAMBLE, FIRST, HEAD];
+    let bare: &[&[u8]] = &[SHORT];
+    let kept: &[&[u8]] = &[PREAMBLE, FIRST, THIRD];
+    let none: &[&[u8]] = &[PREAMBLE];
+    let nothing: &[&[u8]] = &[];
+    let at_once: &[u8] = b"{\"loss\":\"010\"}";
+    let apart: &[u8] = b"{\"loss\":\"101\"}";
+    for (loss, input, status, given, note) in [
+        (at_once, all, 0, kept, "records 3 lost 1\n"),
+        (apart, all, 1, nothing, "loss refused at window 0\n"),
+        (b"{\"loss\":\"11\"}", two, 0, none, "records 2 lost 2\n"),
+        (b"{\"loss\":\"01\"}", all, 3, one, "flags 2 more records\n"),
+        (b"{\"loss\":\"01\"}", one, 3, one, "flags 2 records 1\n"),
+        (b"{\"loss\":\"00\"}", cut, 3, one, "record 1 cut\n"),
+        (b"{\"loss\":\"00\"}", bare, 3, nothing, "preamble\n"),
+        (b"{\"loss\":\"\"}", none, 0, none, "records 0 lost 0\n"),
+    ] {
+        let answer = lose_by(&rt, rt.alloc(), loss, input, 1000, 1000)?;
+        let given = joined(rt.alloc(), given)?;
+        assert_eq!(rt; answer.status, status, "{note}");
+        assert_eq!(rt; answer.given.as_slice(), given.as_slice(), "{note}");
+        assert_eq!(rt; answer.note.as_slice(), note.as_bytes());
+    }
+    lose_is_thinning();
+    Ok(())
+}
+
+// What the words and the files decide: nothing is read or given. The code's file is judged before the loss's is fetched, and
+// the form of both before the loss itself.
+#[test]
+fn lose_judges_its_files(rt: HostRuntime) -> Result<(), Fail> {
+    let input: &[&[u8]] = &[PREAMBLE, FIRST, SECOND, THIRD];
+    let good: &[u8] = b"{\"loss\":\"010\"}";
+    let long = vec![in rt.alloc(); b' '; 4_194_305]?;
+    for (line, code, loss, status, note) in [
+        ("lose 3 2 1 2 010", CODE, good, 2, "usage\n"),
+        ("lose c", CODE, good, 2, "usage\n"),
+        ("lose c d d", CODE, good, 2, "usage\n"),
+        ("lose c e", CODE, good, 7, "read fault\n"),
+        ("lose e d", CODE, good, 7, "read fault\n"),
+        ("lose c e", b"{", good, 3, "code not json\n"),
+        ("lose c d", b"{", b"{", 3, "code not json\n"),
+        ("lose d c", CODE, good, 3, "code shape other\n"),
+        ("lose c c", CODE, good, 3, "loss shape other\n"),
+        ("lose c d", CODE, b"010", 3, "loss not json\n"),
+        ("lose c d", CODE, b"\"010\"", 3, "loss shape whole\n"),
+        ("lose c d", CODE, b"{}", 3, "loss shape loss\n"),
+        ("lose c d", CODE, b"{\"loss\":10}", 3, "loss shape loss\n"),
+        (
+            "lose c d",
+            CODE,
+            b"{\"loss\":\"012\"}",
+            3,
+            "loss range loss\n",
+        ),
+        ("lose c d", CODE, &long, 4, "loss limit 4194305\n"),
+        ("lose c d", CODE, &long[1..], 3, "loss not json\n"),
+        ("lose c e", &long, good, 4, "code limit 4194305\n"),
+    ] {
+        let mut cabinet = two_files(rt.alloc(), code, loss)?;
+        let answer = answer_by(&rt, rt.alloc(), line, &mut cabinet, input, 1000, 1000)?;
+        assert_eq!(rt; answer.status, status, "{line} {note}");
+        assert_eq!(rt; answer.note.as_slice(), note.as_bytes(), "{line}");
+        assert_eq!(rt; answer.moves, 0, "{line} {note}");
+        assert!(rt; answer.given.is_empty(), "{line} {note}");
+    }
+    Ok(())
+}
+
+// The channel is the code file's: two losses at both ends of three slots are refused for one loss anywhere, and not for two.
+#[test]
+fn lose_takes_the_channel_of_its_code(rt: HostRuntime) -> Result<(), Fail> {
+    let input: &[&[u8]] = &[PREAMBLE, FIRST, SECOND, THIRD];
+    let loss: &[u8] = b"{\"loss\":\"101\"}";
+    for (code, status, note) in [
+        (CODE, 1, "loss refused at window 0\n"),
+        (
+            b"{\"channel\":[3,2,2,2],\"k\":1,\"lags\":[[[0]]],\"r\":1}",
+            0,
+            "records 3 lost 2\n",
+        ),
+        (
+            b"{\"channel\":[2,1,1,1],\"k\":1,\"lags\":[[[0]]],\"r\":1}",
+            0,
+            "records 3 lost 2\n",
+        ),
+    ] {
+        let mut cabinet = two_files(rt.alloc(), code, loss)?;
+        let answer = answer_by(&rt, rt.alloc(), "lose c d", &mut cabinet, input, 1000, 1000)?;
+        assert_eq!(rt; answer.status, status, "{note}");
+        assert_eq!(rt; answer.note.as_slice(), note.as_bytes());
+    }
+    Ok(())
+}
+
+// One record of no body with this offset.
+fn empty_record(offset: u32) -> [u8; 8] {
+    let [a, b, c, d] = offset.to_be_bytes();
+    [0, 8, 0, 0, a, b, c, d]
+}
+
+#[test]
+fn thins_three_thousand_records(rt: HostRuntime) -> Result<(), Fail> {
+    let mut loss = joined(rt.alloc(), &[b"{\"loss\":\""])?;
+    let mut input = joined(rt.alloc(), &[PREAMBLE])?;
+    let mut kept = joined(rt.alloc(), &[PREAMBLE])?;
+    for i in 0..3000u32 {
+        let record = empty_record(i);
+        input.extend_from_slice(&record)?;
+        // A burst of ten every hundred records.
+        if i % 100 < 10 {
+            loss.push(b'1')?;
+        } else {
+            loss.push(b'0')?;
+            kept.extend_from_slice(&record)?;
+        }
+    }
+    loss.extend_from_slice(b"\"}")?;
+    let code = b"{\"channel\":[40,10,4,20],\"k\":1,\"lags\":[[[0]]],\"r\":1}";
+    let mut cabinet = two_files(rt.alloc(), code, &loss)?;
+    let words = words_of(rt.alloc(), "lose c d")?;
+    let fails = Vec::new(rt.alloc());
+    let mut port = MemoryPort::new(rt.alloc(), input, 100_000, 10_000, 65_536, fails)?;
+    let mut notes = MemorySink::new(rt.alloc(), 128, Vec::new(rt.alloc()))?;
+    assert_eq!(rt;
+        run(
+            &rt,
+            rt.alloc(),
+            &words,
+            &mut cabinet,
+            &mut port,
+            &mut notes,
+            &NoGate
+        ),
+        0
+    );
+    assert!(rt; port.given() == kept.as_slice());
+    assert_eq!(rt; notes.given(), b"records 3000 lost 300\n".as_slice());
+    Ok(())
+}
+
+#[test]
+fn faults_of_the_port_are_told(rt: HostRuntime) -> Result<(), Fail> {
+    let all: &[&[u8]] = &[PREAMBLE, FIRST, SECOND, THIRD];
+    let loss: &[u8] = b"{\"loss\":\"010\"}";
+    let whole = joined(rt.alloc(), &[PREAMBLE, FIRST, THIRD])?;
+    // In pieces of 7 bytes, 20 calls read the preamble, byte by byte within its line, and the next 7 write it. Then 3 read
+    // each record, and what waits is written last. Of the bytes due so many are given.
+    for (room, fail, status, note, given) in [
+        (1000, 0, 7, "read fault\n", 0),
+        (1000, 19, 7, "read fault\n", 0),
+        (1000, 20, 8, "write fault\n", 0),
+        (1000, 22, 8, "write fault\n", 14),
+        (1000, 27, 7, "read fault\n", 44),
+        (1000, 29, 7, "read fault\n", 44),
+        (1000, 30, 7, "read fault\n", 53),
+        (1000, 35, 7, "read fault\n", 53),
+        (50, 1000, 8, "write fault\n", 50),
+    ] {
+        let answer = lose_by(&rt, rt.alloc(), loss, all, room, fail)?;
+        assert_eq!(rt; answer.status, status, "{room} {fail}");
+        assert_eq!(rt; answer.note.as_slice(), note.as_bytes());
+        assert!(rt; whole.as_slice().starts_with(answer.given.as_slice()));
+        assert_eq!(rt; answer.given.len(), given, "{room} {fail}");
+    }
+    Ok(())
+}
