@@ -227,7 +227,7 @@ with tempfile.TemporaryDirectory() as folder:
     answers("a word that isn't UTF-8", [b"lose", b"\xff", sample], held(capture), 2, b"", b"usage\n")
     answers("files exchanged", ["lose", sample, optimal], held(capture), 3, b"", b"code shape other\n")
     for what, text, told in [
-        ("no JSON", loss, b"loss not json\n"),
+        ("no JSON", "0110", b"loss not json\n"),
         ("no text", '{"loss":[0]}', b"loss shape loss\n"),
         ("another character", '{"loss":"012"}', b"loss range loss\n"),
     ]:
