@@ -5,3 +5,5 @@ pub mod LoseLaws
 pub mod VerdictSteps
 pub mod CheckLaws
 pub mod CertifyLaws
+pub mod CandidateSteps
+pub mod DesignLaws

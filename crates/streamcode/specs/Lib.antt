@@ -8,3 +8,4 @@ pub mod Runs
 pub mod LoseLaws
 pub mod CheckLaws
 pub mod CertifyLaws
+pub mod DesignLaws

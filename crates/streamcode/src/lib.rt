@@ -18,7 +18,7 @@ mod protect;
 mod tests;
 mod verdict;
 
-pub use check_laws::{certify_is_bounding, check_is_meeting};
+pub use check_laws::{certify_is_bounding, check_is_meeting, design_is_first_good};
 pub use end::{End, Role};
 pub use lose_laws::lose_is_thinning;
 pub use note::conclude;
