@@ -32,23 +32,26 @@ def thinned(data, loss):
     return b"".join(out)
 
 
-def generated(seed, count, size):
-    """The standard preamble, and records of RTP packets with the low bytes of the words of PCG32 (O'Neill's reference code)."""
+def words_of(seed):
+    """The words of PCG32 that is started from a seed on the sequence 54 (O'Neill's reference code)."""
     mask = (1 << 64) - 1
-    increment = 2 * 54 + 1
-    step = lambda state: (state * 6364136223846793005 + increment) & mask
+    step = lambda state: (state * 6364136223846793005 + 2 * 54 + 1) & mask
     state = step((step(0) + seed) & mask)
+    while True:
+        mixed = (state >> 18 ^ state) >> 27 & 0xFFFFFFFF
+        turn = state >> 59
+        yield (mixed >> turn | mixed << (-turn & 31)) & 0xFFFFFFFF
+        state = step(state)
+
+
+def generated(seed, count, size):
+    """The standard preamble, and records of RTP packets with the low bytes of drawn words."""
+    words = words_of(seed)
     out = [b"#!rtpplay1.0 127.0.0.1/5004\n", bytes(8), bytes([127, 0, 0, 1]), (5004).to_bytes(2, "big"), bytes(2)]
     for i in range(count):
         out.append(struct.pack(">HHI", 8 + size, size, 20 * i))
         out.append(struct.pack(">BBHII", 0x80, 0, i % 65536, 160 * i % 2**32, 0x12345678))
-        drawn = bytearray()
-        for _ in range(size - 12):
-            mixed = (state >> 18 ^ state) >> 27 & 0xFFFFFFFF
-            turn = state >> 59
-            drawn.append((mixed >> turn | mixed << (-turn & 31)) & 0xFF)
-            state = step(state)
-        out.append(drawn)
+        out.append(bytes(next(words) & 0xFF for _ in range(size - 12)))
     return b"".join(out)
 
 
@@ -164,6 +167,57 @@ def checked(code):
         if not decided(code, loss):
             return index, loss
     return "meets %d %d %d %d " % tuple(code["channel"]) + "rate %d/%d classes %d\n" % (code["k"], code["k"] + code["r"], len(every))
+
+
+def interleaved(channel, rows):
+    """The code of a parity matrix that is laid over the diagonals of the stream."""
+    k, r = len(rows), len(rows[0])
+    lags = [[[rows[i][j] if lag + i == k + j else 0 for j in range(r)] for i in range(k)] for lag in range(k + r)]
+    return {"channel": channel, "k": k, "lags": lags, "r": r}
+
+
+def candidate(kind, channel, x):
+    """The candidate of this number, drawn as the page of formats says."""
+    _, b, n, t = channel
+    words = words_of(x)
+    draw = lambda: 1 + next(words) % 255
+    if kind == "ms":
+        below = lambda i: [next(y for y in range(256) if times(i ^ j, y) == 1) for j in range(b)]
+        return interleaved(channel, [[int(i == j) for j in range(b)] if i < b else below(i) for i in range(t)])
+    if kind == "layered":
+        q = -(-b * n // (t - n + 1))
+        lags = [[[0] * (b + q) for _ in range(t)] for _ in range(t + 1)]
+        for j, lag, i in itertools.product(range(b), range(t), range(b, t)):
+            lags[lag][i][j] = draw()
+        for j, lag, i in itertools.product(range(q), range(t + 1), range(b)):
+            lags[lag][i][b + j] = draw()
+        for j in range(b):
+            lags[t][j][j] = 1
+        return {"channel": channel, "k": t, "lags": lags, "r": b + q}
+    k = t - n + 1
+    g = max(0, b - k)
+    h = n - 1 - g
+    rows = [[0] * b for _ in range(k)]
+    for j, i in itertools.product(range(g), range(k)):
+        rows[i][j] = draw()
+    left = [[draw() for _ in range(h)] for _ in range(min(k, b))]
+    right = [[draw() for _ in range(b - g)] for _ in range(h)]
+    for i, j in itertools.product(range(min(k, b)), range(g, b)):
+        rows[i][j] = functools.reduce(lambda a, x: a ^ times(left[i][x], right[x][j - g]), range(h), 0)
+    for i in range(b - n + 1):
+        rows[i][i + n - 1] ^= draw()
+    for i, j in itertools.product(range(b, k), range(g, b)):
+        rows[i][j] = draw()
+    return interleaved(channel, rows)
+
+
+def designed(kind, channel):
+    """The code file of the first candidate that meets the channel, and the note."""
+    for x in itertools.count():
+        code = candidate(kind, channel, x)
+        if isinstance(checked(code), str):
+            note = "candidate %d rate %d/%d\n" % (x, code["k"], code["k"] + code["r"])
+            return json.dumps(code, separators=(",", ":")).encode() + b"\n", note.encode()
 
 
 def expect(what, got, wanted):
@@ -328,13 +382,22 @@ with tempfile.TemporaryDirectory() as folder:
     answers("design ms of two", ["design", "ms", "3", "2", "2", "2"], empty(), 10, b"", b"no code\n")
     answers("design ms too wide", ["design", "ms", "41", "25", "1", "40"], empty(), 4, b"", b"limit symbols 65\n")
     answers("design layered", ["design", "layered", "2", "1", "1", "1"], empty(), 0, b'{"channel":[2,1,1,1],"k":1,"lags":[[[0,42]],[[1,219]]],"r":2}\n', b"candidate 0 rate 1/3\n")
-    designed = run(["design", "optimal", "11", "4", "2", "10"], empty())
-    expect("design of a code", (designed.returncode, designed.stderr), (0, b"candidate 0 rate 9/13\n"))
-    code = json.loads(designed.stdout)
-    expect("its sizes", (code["k"], code["r"], code["channel"]), (9, 4, [11, 4, 2, 10]))
-    expect("it is the example", designed.stdout, open(optimal, "rb").read())
-    expect("it is judged again", checked(code), "meets 11 4 2 10 rate 9/13 classes 11\n")
-    answers("it meets its channel", ["check", named("designed.json", designed.stdout.decode()), "4"], empty(), 0, b"meets 11 4 2 10 rate 9/13 classes 11\n", b"accepted\n")
+    answers("design of none", ["design", "optimal", "13", "6", "6", "12"], empty(), 10, b"", b"no code\n")
+    for maker, channel in [
+        ("ms", [6, 3, 1, 5]),
+        ("layered", [5, 2, 2, 4]),
+        ("layered", [7, 4, 3, 6]),
+        ("optimal", [5, 4, 2, 4]),
+        ("optimal", [7, 6, 3, 6]),
+        ("optimal", [8, 4, 3, 7]),
+        ("optimal", [9, 5, 5, 8]),
+        ("optimal", [11, 4, 2, 10]),
+    ]:
+        line = ["design", maker, *map(str, channel)]
+        answers(" ".join(line), line, empty(), 0, *designed(maker, channel))
+    text, _ = designed("optimal", [11, 4, 2, 10])
+    expect("the example's code", open(optimal, "rb").read(), text)
+    answers("it meets its channel", ["check", optimal, "4"], empty(), 0, b"meets 11 4 2 10 rate 9/13 classes 11\n", b"accepted\n")
 
     # A folder can't be read, and nothing can be written to a device that is full.
     directory = os.open(folder, os.O_RDONLY)

@@ -87,20 +87,26 @@ module _ (kind : MakerKind) (channel : ChannelNumbers) (is : IsChannel channel) 
   unkept_there c i here h behind = elim (at_or_behind c i h) [ inl at ↦ subst (λ (j : ℕ). is_kept j ≡ false) at here | inr more ↦ behind more ]
 
   search_on : (c n : ℕ) (test : Bool) → is_kept c ≡ test → Search (c + 1) n → Search c (suc n)
-  search_on c n true e behind = inl (c, record {
-    from = omega arith;
-    within = omega arith;
-    kept = e;
-    earlier = λ i h lt. absurd (omega (arith, h, lt));
-    answer = from_here c n e;
-  })
-  search_on c n false e (inl (m, h)) = inl (m, record {
-    from = omega (arith, h.from);
-    within = omega (arith, h.within);
-    kept = h.kept;
-    earlier = λ i at lt. unkept_there c i e at (λ more. h.earlier i more lt);
-    answer = from_next c n e ∙ h.answer;
-  })
+  search_on c n true e behind = inl (
+    c,
+    record {
+      from = omega arith;
+      within = omega arith;
+      kept = e;
+      earlier = λ i h lt. absurd (omega (arith, h, lt));
+      answer = from_here c n e;
+    },
+  )
+  search_on c n false e (inl (m, h)) = inl (
+    m,
+    record {
+      from = omega (arith, h.from);
+      within = omega (arith, h.within);
+      kept = h.kept;
+      earlier = λ i at lt. unkept_there c i e at (λ more. h.earlier i more lt);
+      answer = from_next c n e ∙ h.answer;
+    },
+  )
   search_on c n false e (inr h) = inr (record {
     none = λ i at lt. unkept_there c i e at (λ more. h.none i more (omega (arith, lt)));
     answer = from_next c n e ∙ h.answer;
@@ -211,9 +217,9 @@ module _ (kind : MakerKind) (channel : ChannelNumbers) (is : IsChannel channel) 
         | inl before ↦ absurd (h.first.earlier m before (kept-good has m first.kept))
         | inr from ↦ elim (cases_lt found.candidate m) [
           | inl behind ↦ (
-            let unkept = first.earlier found.candidate (omega arith) behind in
-            let kept = good-kept has found.candidate h.first.good in
-            absurd (cc))
+              let unkept = first.earlier found.candidate (omega arith) behind in
+              let kept = good-kept has found.candidate h.first.good in
+              absurd (cc))
           | inr to ↦ omega (arith, from, to)
         ]
       ]

@@ -1,5 +1,6 @@
 //! Whole runs over objects in memory. What is wanted is written out by hand from the format.
 mod checking;
+mod designing;
 mod losing;
 
 use super::{End, Role, conclude, run};
