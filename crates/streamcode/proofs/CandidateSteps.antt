@@ -1,18 +1,17 @@
 -- The candidates of each kind are codes: their numbers are within the limits, and each coefficient is a byte.
-use Rattle.std.proofs.Common.{◌≡◌, ◌≢◌, ℕ, ◌+◌, ◌-◌, ◌*◌, ◌<◌, ◌≤◌, ◌==◌, ◌&&◌, Bool, true, false, if◌then◌else◌, nat_lt, nat_le, map, bit_xor, refl, sym, ap, ◌∙◌, subst, arith}
+use Rattle.std.proofs.Common.{◌≡◌, ℕ, ◌+◌, ◌-◌, ◌*◌, ◌<◌, ◌≤◌, ◌==◌, ◌&&◌, Bool, true, false, if◌then◌else◌, nat_lt, nat_le, map, bit_xor, refl, sym, ap, ◌∙◌, subst, arith}
 use Rattle.std.specs.Int.Bits.{xor_zero_l}
 use Rattle.std.specs.List.{range_with_len}
-use Rattle.std.proofs.Math.Nat.{mod-lt}
 use Rattle.std.proofs.lemmas.Bool.Decides.{nat_tests}
 use Rattle.std.proofs.lemmas.Nat.{xor_of_8}
 use Rattle.std.proofs.lemmas.List.FromFn.{length-map-range_with_len}
-use Rattle.sc_field.specs.Gf256.{gf256_product, gf256_inverse}
+use Rattle.sc_field.specs.Gf256.{gf256_inverse}
 use Rattle.sc_field.specs.Laws.Xor.{xor_twice}
 use Rattle.sc_field.specs.Laws.Gf256Laws.{gf256_field}
 use Rattle.sc_field.specs.Laws.Inverse.{inverse_below}
 use Rattle.sc_matrix.specs.Module.{IsByte}
 use Rattle.sc_matrix.specs.Vector.{IsVector}
-use Rattle.sc_matrix.specs.Matrix.{Matrix, IsMatrix, row_count, entry, product}
+use Rattle.sc_matrix.specs.Matrix.{Matrix, IsMatrix, row_count, entry}
 use Rattle.sc_matrix.proofs.MatrixLaws.{entry_kind}
 use Rattle.sc_matrix.proofs.Modules.{field_module}
 use Rattle.sc_matrix.proofs.ProductLaws.{IsMatrix-product}
@@ -24,8 +23,8 @@ use Rattle.sc_diag.specs.Diagonal.{diagonal_coefficient, interleaved}
 use Rattle.sc_diag.proofs.MadeLaws.{row_count-matrix_with, shapes-code_with, length-lags}
 use Rattle.sc_ms.specs.Burst.{burst_entry, burst_matrix}
 use Rattle.sc_layered.specs.Draw.{generator, nonzero_at}
-use Rattle.sc_layered.specs.Layered.{second_layer, layered_parity, first_word, second_word, first_coefficient, layered_coefficient}
-use Rattle.sc_optimal.specs.Optimal.{OptimalSizes, optimal_sizes, first_rows, other_cols, left_from, right_from, diagonal_from, last_from, drawn_matrix, low_rank, optimal_entry, optimal_matrix}
+use Rattle.sc_layered.specs.Layered.{second_layer, layered_parity, first_coefficient, layered_coefficient}
+use Rattle.sc_optimal.specs.Optimal.{OptimalSizes, optimal_sizes, first_rows, other_cols, left_from, right_from, drawn_matrix, low_rank, optimal_entry, optimal_matrix}
 use Rattle.sc_optimal.specs.Candidates.{candidate, HasCandidates}
 use Rattle.sc_optimal.specs.declared.kind.MakerKind.{MakerKind}
 use Rattle.sc_optimal.specs.declared.kind.MakerKind.TheVariants.{Ms, Layered, Optimal}

@@ -1,5 +1,5 @@
 -- `design`, in the words of codes.
-use Rattle.std.proofs.Common.{◌≡◌, ◌≢◌, ◌⊎◌, ◌↔◌, inl, inr, ℕ, zero, suc, ◌+◌, ◌<◌, ◌≤◌, Bool, true, false, cond, is_none, nat_lt, Option, None, Some, List, Result, Ok, Err, refl, sym, ap, ◌∙◌, subst, arith}
+use Rattle.std.proofs.Common.{◌≡◌, ◌⊎◌, inl, inr, ℕ, zero, suc, ◌+◌, ◌<◌, ◌≤◌, Bool, true, false, is_none, nat_lt, Option, None, Some, List, Result, Ok, Err, refl, sym, ap, ◌∙◌, subst, arith}
 use Rattle.std.proofs.lemmas.Bool.{cases_lt, lt-ltb, le-ltb}
 use Rattle.sc_field.specs.Gf256.{gf256_product}
 use Rattle.sc_outside.specs.Ends.{Due}
@@ -15,10 +15,10 @@ use Rattle.sc_optimal.specs.declared.kind.DesignFault.TheVariants.{NotBurst, Too
 use Rattle.sc_optimal.specs.declared.kind.MakerKind.{MakerKind}
 use Rattle.sc_optimal.specs.declared.kind.MakerKind.TheVariants.{Ms, Layered, Optimal}
 use Rattle.sc_optimal.specs.Candidates.{candidate, candidate_count, candidate_width, IsNotBurst, HasCandidates, IsTooWide, IsGood}
-use Rattle.sc_optimal.specs.Design.{IsFirstGood, AllFail, IsCheckable, IsDesigned, HasManyClasses, HasNoCode, is_not_burst, found_at, first_from, design_of}
+use Rattle.sc_optimal.specs.Design.{IsCheckable, IsDesigned, HasManyClasses, HasNoCode, is_not_burst, found_at, first_from, design_of}
 use Rattle.sc_words.specs.declared.words.Kind.{Kind}
 use Rattle.streamcode.specs.declared.end.End.{End}
-use Rattle.streamcode.specs.End.{status_of, end_of_design}
+use Rattle.streamcode.specs.End.{status_of}
 use Rattle.streamcode.specs.Jobs.{maker_of, design_by}
 use Rattle.streamcode.specs.CheckLaws.{MayCheck, FileMeets}
 use Rattle.streamcode.specs.DesignLaws.{due_of_design, file_of, GivesFirst, ZeroGivesFirst, FirstIsGiven, TenIsNoCode, FourIsTooWide, ElevenIsTooMany}

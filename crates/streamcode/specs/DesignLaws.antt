@@ -1,6 +1,6 @@
 -- The laws of `design`, in the words of codes.
 use Rattle.std.specs.Prelude.{◌≡◌, ◌⊎◌, ◌↔◌, ℕ, ◌+◌, false, List}
-use Rattle.sc_outside.specs.Ends.{Due, only}
+use Rattle.sc_outside.specs.Ends.{Due}
 use Rattle.sc_channel.specs.Channel.{ChannelNumbers, IsChannel}
 use Rattle.sc_channel.specs.Classes.{class_count}
 use Rattle.sc_code.specs.declared.code.CodeFile.{CodeFile}
@@ -9,7 +9,7 @@ use Rattle.sc_optimal.specs.Candidates.{candidate_width, IsNotBurst, IsTooWide}
 use Rattle.sc_optimal.specs.Design.{IsDesigned, HasManyClasses, HasNoCode}
 use Rattle.sc_words.specs.declared.words.Kind.{Kind}
 use Rattle.streamcode.specs.declared.end.End.{End}
-use Rattle.streamcode.specs.declared.end.End.TheVariants.{Designed, Accepted, TooManySymbols, TooManyClasses}
+use Rattle.streamcode.specs.declared.end.End.TheVariants.{Designed, Accepted}
 use Rattle.streamcode.specs.End.{status_of}
 use Rattle.streamcode.specs.Jobs.{maker_of, design_text, design_job}
 use Rattle.streamcode.specs.CheckLaws.{due_of_check, FileMeets}
