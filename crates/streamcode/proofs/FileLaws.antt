@@ -1,7 +1,8 @@
 -- What a run owes by the bytes of a file, and how it ends by them.
-use Rattle.std.proofs.Common.{◌≡◌, inl, inr, ℕ, ◌<◌, ◌≤◌, true, false, List, length, nat_lt, Result, Ok, Err, refl, sym, ap, ◌∙◌, subst, arith}
+use Rattle.std.proofs.Common.{◌≡◌, inl, inr, ℕ, ◌<◌, ◌≤◌, true, false, List, length, nat_lt, Option, Some, Result, Ok, Err, refl, sym, ap, ◌∙◌, subst, arith}
 use Rattle.std.proofs.lemmas.Bool.Decides.{nat_tests}
-use Rattle.sc_outside.specs.Cabinet.{CabinetTold}
+use Rattle.std.proofs.lemmas.List.{take_all}
+use Rattle.sc_outside.specs.Cabinet.{CabinetTold, file_named}
 use Rattle.sc_outside.specs.Port.{Told}
 use Rattle.sc_outside.proofs.EndsLaws.{Ends-at_once}
 use Rattle.sc_codefile.specs.declared.fault.FileFault.{FileFault}
@@ -10,7 +11,7 @@ use Rattle.streamcode.specs.declared.end.End.{End}
 use Rattle.streamcode.specs.declared.end.End.TheVariants.{FileTooLong, ReadFault, WriteFault, NoMemory}
 use Rattle.streamcode.specs.Files.{by_reading, by_bytes, file_plan, IsRefusedBy, Came}
 use Rattle.streamcode.specs.Jobs.{refusal}
-use Rattle.streamcode.specs.Plans.{Plan, owes, most_fetched, PlanEnds}
+use Rattle.streamcode.specs.Plans.{Plan, owes, most_fetched, due_by, due_of, PlanEnds}
 
 module _ {A : Type 0} (role : Role) (reading : List ℕ → Result A FileFault) where
   -- which plan is left by the bytes
@@ -19,6 +20,14 @@ module _ {A : Type 0} (role : Role) (reading : List ℕ → Result A FileFault) 
 
   left_long : (next : A → Plan) (bytes : List ℕ) → most_fetched ≤ length bytes → by_bytes role reading next bytes ≡ owes (refusal true (FileTooLong role))
   left_long next bytes long = let test : nat_lt (length bytes) most_fetched ≡ false = grind (arith, nat_tests, long) in rw (test) refl
+
+  -- what is due where the file is there, shorter than the limit, and of its form
+  pub due-file : (next : A → Plan) (files : List (List ℕ × List ℕ)) (name bytes : List ℕ) (file : A) (input : List ℕ) → file_named name files ≡ Some bytes → length bytes < most_fetched
+      → reading bytes ≡ Ok file → due_of (file_plan role reading name next) (Some files) input ≡ due_of (next file) (Some files) input
+  due-file next files name bytes file input there short read =
+      ap (λ (o : Option (List ℕ)). due_by o (λ piece. due_of (by_bytes role reading next piece) (Some files) input)) there
+      ∙ ap (λ piece. due_of (by_bytes role reading next piece) (Some files) input) (take_all most_fetched bytes (omega (arith, short)))
+      ∙ ap (λ plan. due_of plan (Some files) input) (left_short next bytes short ∙ ap (by_reading role reading next) read)
 
   module _ {P : Type 0} (told : P → Told) where
     -- a refusal that left all alone

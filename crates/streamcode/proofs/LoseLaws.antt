@@ -3,6 +3,7 @@ use Rattle.std.proofs.Common.{◌≡◌, ◌↔◌, ℕ, ◌<◌, ◌≤◌, ◌
 use Rattle.std.proofs.lemmas.Bool.{le-ltb, cases_lt, lt-ltb, eqb-true}
 use Rattle.std.proofs.lemmas.List.{nil_from_length}
 use Rattle.sc_outside.specs.Ends.{Due}
+use Rattle.sc_codefile.specs.Reading.{code_reading, loss_reading}
 use Rattle.sc_channel.specs.Channel.{ChannelNumbers}
 use Rattle.sc_channel.specs.Flags.{set_count}
 use Rattle.sc_channel.specs.Loss.{IsAdmissible, bad_window}
@@ -20,9 +21,20 @@ use Rattle.sc_rtpdump.proofs.ReadingLaws.{reading_of-capture, reading_of-sound, 
 use Rattle.streamcode.specs.declared.end.End.{End}
 use Rattle.streamcode.specs.declared.end.End.TheVariants.{Thinned, Capture}
 use Rattle.streamcode.specs.End.{status_of, end_of_drop}
-use Rattle.streamcode.specs.Jobs.{lose_by}
-use Rattle.streamcode.specs.LoseLaws.{due_of_lose, HasRecords, refused, Refusals}
+use Rattle.streamcode.specs.declared.end.Role.TheVariants.{Code, Loss}
+use Rattle.streamcode.specs.Jobs.{lose_by, lose_job}
+use Rattle.streamcode.specs.Files.{loss_plan}
+use Rattle.streamcode.specs.Plans.{owes}
+use Rattle.streamcode.specs.LoseLaws.{due_of_lose, FilesSayWhatIsDue, HasRecords, refused, Refusals}
+use Rattle.streamcode.proofs.FileLaws.{due-file}
 
+-- ---- what the files say
+pub files-due : FilesSayWhatIsDue
+files-due files code loss file flags input h =
+    due-file Code code_reading (λ file. loss_plan loss (λ flags. owes (lose_job file.channel flags))) files code h.code_bytes file input h.code_there h.code_short h.code_is
+    ∙ due-file Loss loss_reading (λ flags. owes (lose_job file.channel flags)) files loss h.loss_bytes flags input h.loss_there h.loss_short h.loss_is
+
+-- ---- what the loss and the input say
 -- what is due where the loss is admissible, by how thinning ends and what it gives
 abbrev due_at : ℕ → Result Dropped DropFault → List ℕ → Due End
 due_at flags end text = record { answer = end_of_drop flags end; text = text; at_end = is_ok end }

@@ -1,9 +1,12 @@
 -- What is said of `lose` in the format's own words.
-use Rattle.std.specs.Prelude.{◌≡◌, ◌↔◌, ℕ, ◌<◌, ◌≤◌, Bool, true, false, List, [], length}
+use Rattle.std.specs.Prelude.{◌≡◌, ◌↔◌, ℕ, ◌<◌, ◌≤◌, Bool, true, false, Some, List, [], ◌∷◌, codes, length, Ok}
+use Rattle.sc_outside.specs.Cabinet.{file_named}
 use Rattle.sc_outside.specs.Ends.{Due}
 use Rattle.sc_channel.specs.Channel.{ChannelNumbers}
 use Rattle.sc_channel.specs.Flags.{set_count}
 use Rattle.sc_channel.specs.Loss.{IsAdmissible}
+use Rattle.sc_code.specs.declared.code.CodeFile.{CodeFile}
+use Rattle.sc_codefile.specs.Reading.{code_reading, loss_reading}
 use Rattle.sc_rtpdump.specs.declared.fault.DumpFault.TheVariants.{Preamble, RecordHead, RecordLength, Truncated}
 use Rattle.sc_rtpdump.specs.Record.{Record, length_field}
 use Rattle.sc_rtpdump.specs.Capture.{Parts, IsCapture, AreBytes, IsReading, BeginsOtherwise}
@@ -13,10 +16,28 @@ use Rattle.streamcode.specs.declared.end.End.{End}
 use Rattle.streamcode.specs.declared.end.End.TheVariants.{Thinned, Capture, MoreRecords, FewerRecords}
 use Rattle.streamcode.specs.End.{status_of}
 use Rattle.streamcode.specs.Jobs.{lose_job}
+use Rattle.streamcode.specs.Plans.{most_fetched, due_of}
+use Rattle.streamcode.specs.Runs.{plan_of}
 
 -- what is due for `lose` with this channel and this loss, where this is the whole input
 abbrev pub due_of_lose : ChannelNumbers → List Bool → List ℕ → Due End
 due_of_lose channel flags input = (lose_job channel flags).whole input
+
+-- The files of two names are there, with fewer bytes than the limit, and are this code file and this loss.
+pub record AreFilesOf (files : List (List ℕ × List ℕ)) (code loss : List ℕ) (file : CodeFile) (flags : List Bool) : Type 0 where
+  pub code_bytes : List ℕ
+  pub code_there : file_named code files ≡ Some code_bytes
+  pub code_short : length code_bytes < most_fetched
+  pub code_is : code_reading code_bytes ≡ Ok file
+  pub loss_bytes : List ℕ
+  pub loss_there : file_named loss files ≡ Some loss_bytes
+  pub loss_short : length loss_bytes < most_fetched
+  pub loss_is : loss_reading loss_bytes ≡ Ok flags
+
+-- then what is due for the words is what is due for the channel of the code file and the flags of the loss
+abbrev pub FilesSayWhatIsDue : Type 0
+FilesSayWhatIsDue = (files : List (List ℕ × List ℕ)) (code loss : List ℕ) (file : CodeFile) (flags : List Bool) (input : List ℕ) → AreFilesOf files code loss file flags
+    → due_of (plan_of (codes "lose" ∷ code ∷ loss ∷ [])) (Some files) input ≡ Some (due_of_lose file.channel flags input)
 
 -- a capture with as many records as flags, and an admissible loss: the thinned capture is due, with status 0
 abbrev pub ThinnedAreDue : Type 0

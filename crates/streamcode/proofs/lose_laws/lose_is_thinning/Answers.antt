@@ -1,5 +1,8 @@
-use Rattle.streamcode.proofs.LoseLaws.{thinned-due, zero-thinned, one-refused, preamble-refused, reading-refused}
+use Rattle.streamcode.proofs.LoseLaws.{files-due, thinned-due, zero-thinned, one-refused, preamble-refused, reading-refused}
 use Rattle.streamcode.proofs.lose_laws.lose_is_thinning.Goals as goal
+
+pub returns-clause-files : goal.returns-clause-files
+returns-clause-files c = files-due
 
 pub returns-clause-thinned : goal.returns-clause-thinned
 returns-clause-thinned c = thinned-due
