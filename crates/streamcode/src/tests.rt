@@ -57,6 +57,16 @@ fn one_file(alloc: Global, name: &str, text: &[u8]) -> Result<MemoryCabinet, All
 
 /// A cabinet with two files, `c` and `d`.
 fn two_files(alloc: Global, first: &[u8], second: &[u8]) -> Result<MemoryCabinet, AllocError> {
+    failing_files(alloc, first, second, Vec::new(alloc))
+}
+
+/// The same, of which these fetches fail.
+fn failing_files(
+    alloc: Global,
+    first: &[u8],
+    second: &[u8],
+    fails: Vec<u32>,
+) -> Result<MemoryCabinet, AllocError> {
     let mut files = Vec::new(alloc);
     files.push((
         String::from_str(alloc, "c")?,
@@ -66,7 +76,7 @@ fn two_files(alloc: Global, first: &[u8], second: &[u8]) -> Result<MemoryCabinet
         String::from_str(alloc, "d")?,
         Vec::from_slice(alloc, second)?,
     ))?;
-    Ok(MemoryCabinet::new(files, Vec::new(alloc)))
+    Ok(MemoryCabinet::new(files, fails))
 }
 
 /// What a run answered, gave and told, and how many of its reads and writes succeeded.

@@ -1,5 +1,7 @@
 //! Whole runs of `lose`. What is wanted is written out by hand from the format.
-use super::{Answer, CODE, HEAD, PREAMBLE, SHORT, answer_by, joined, two_files, words_of};
+use super::{
+    Answer, CODE, HEAD, PREAMBLE, SHORT, answer_by, failing_files, joined, two_files, words_of,
+};
 use crate::{lose_is_thinning, run};
 use sc_check::NoGate;
 use sc_outside::{MemoryPort, MemorySink};
@@ -97,6 +99,26 @@ fn lose_judges_its_files(rt: HostRuntime) -> Result<(), Fail> {
         assert_eq!(rt; answer.note.as_slice(), note.as_bytes(), "{line}");
         assert_eq!(rt; answer.moves, 0, "{line} {note}");
         assert!(rt; answer.given.is_empty(), "{line} {note}");
+    }
+    Ok(())
+}
+
+// The code's file is fetched first, and the loss's next. Where one fails, nothing is read.
+#[test]
+fn lose_stops_at_a_failed_fetch(rt: HostRuntime) -> Result<(), Fail> {
+    let input: &[&[u8]] = &[PREAMBLE, FIRST];
+    let loss: &[u8] = b"{\"loss\":\"0\"}";
+    for (fail, status, note) in [
+        (0, 7, "read fault\n"),
+        (1, 7, "read fault\n"),
+        (2, 0, "records 1 lost 0\n"),
+    ] {
+        let fails = vec![in rt.alloc(); fail]?;
+        let mut cabinet = failing_files(rt.alloc(), CODE, loss, fails)?;
+        let answer = answer_by(&rt, rt.alloc(), "lose c d", &mut cabinet, input, 1000, 1000)?;
+        assert_eq!(rt; answer.status, status, "{fail}");
+        assert_eq!(rt; answer.note.as_slice(), note.as_bytes(), "{fail}");
+        assert_eq!(rt; answer.moves == 0, status == 7, "{fail}");
     }
     Ok(())
 }
