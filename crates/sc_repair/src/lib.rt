@@ -2,8 +2,10 @@
 #![tactic(auto)]
 
 mod equations;
+mod repair;
 mod repairer;
 
+pub use repair::{RepairEnd, Repaired};
 pub use repairer::{EndState, MAX_SLOTS, Put, Repairer, TakeFault, Unfit};
 
 #[cfg(test)]

@@ -167,6 +167,12 @@ impl Repairer {
         self.passed
     }
 
+    /// What holds of the numbers of every repairer.
+    pub fn known(&self)
+        ensures { IsSound self.now }
+    {
+    }
+
     /// Whether a slot fits the slots taken before it, which says nothing of its block and its parity. `OtherWidth` comes
     /// first, exactly where its symbols have another number of bytes; `OtherEnd` exactly where its end byte doesn't fit the
     /// end so far.
@@ -351,6 +357,7 @@ impl Repairer {
     pub fn block(&self) -> &[u8]
         ensures bytes { result.now ≡ self.now.block }
         ensures count { length result.now ≡ self.now.k * self.now.m }
+        ensures limit { length result.now ≤ 65503 }
     {
         self.block.as_slice()
     }
