@@ -6,3 +6,5 @@ pub mod Takes
 pub mod Values
 pub mod Readings
 pub mod Repairing
+pub mod Steps
+pub mod RepairSteps

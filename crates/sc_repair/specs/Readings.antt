@@ -1,5 +1,5 @@
 -- What a record and a block are read as, as functions of them: by their numbers, and by whether they are spelled with these.
-use Rattle.std.specs.Prelude.{ℕ, ◌+◌, ◌*◌, ◌%◌, ◌<◌, ◌&&◌, ◌||◌, Bool, true, false, List, [], length, take, drop, slice_index, not, nat_eq, nat_lt, nat_le, bytes_eq, if◌then◌else◌}
+use Rattle.std.specs.Prelude.{ℕ, ◌+◌, ◌*◌, ◌%◌, ◌&&◌, ◌||◌, Bool, true, false, List, [], length, take, drop, slice_index, not, nat_eq, nat_lt, nat_le, bytes_eq, if◌then◌else◌}
 use Rattle.std.specs.List.{list_all, concat}
 use Rattle.sc_rtp.specs.Head.{number16, number32}
 use Rattle.sc_rtpdump.specs.declared.kind.Kind.TheVariants.{Rtp}

@@ -106,16 +106,18 @@ module _ (file : CodeFile) where
       else Some (OtherEnd s.number (end_by (claimed taken) (least_end taken)) s.end))
       else Some (OtherWidth s.number m s.m)
 
-  -- What stops a slot that fits: a bad block among the slots that are put out once those before it are passed; no stream that
-  -- has it and all taken ones; a bad block among those that are put out once it is taken.
+  -- What stops a taken slot behind others that it fits, where symbols have m bytes: a bad block among the slots that are put
+  -- out once those before it are passed; no stream that has it and all taken ones; a bad block among those that are put out
+  -- once it is taken.
+  abbrev pub stop_by : ℕ → List (Taken ℕ) → Taken ℕ → Option Refusal
+  stop_by m taken one =
+      let after = taken ++ one ∷ [] in
+      first_of (bad_among (put_of m taken one.number))
+      (if is_consistent file.code.k m after (one.number + 1) then bad_among (put_of m after (one.number + 1))
+      else Some (record { fault = Clash one.number; values = put_of m taken one.number }))
+
   abbrev pub stop_at : List Slot → Slot → Option Refusal
-  stop_at slots s =
-      let m = s.m in
-      let taken = taken_of slots in
-      let after = taken ++ taken_slot file.code s ∷ [] in
-      first_of (bad_among (put_of m taken s.number))
-      (if is_consistent file.code.k m after (s.number + 1) then bad_among (put_of m after (s.number + 1))
-      else Some (record { fault = Clash s.number; values = put_of m taken s.number }))
+  stop_at slots s = stop_by s.m (taken_of slots) (taken_slot file.code s)
 
   abbrev pub refusal_by : List Slot → Slot → Option Misfit → Option Refusal
   refusal_by slots s (Some misfit) = Some (still slots (Unfit misfit))

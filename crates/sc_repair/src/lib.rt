@@ -2,6 +2,7 @@
 #![tactic(auto)]
 
 mod equations;
+mod put;
 mod repair;
 mod repairer;
 
