@@ -2,3 +2,4 @@ pub mod EquationSteps
 pub mod StandsSteps
 pub mod CallSteps
 pub mod TakeSteps
+pub mod ValueLaws
