@@ -3,3 +3,4 @@ pub mod StandsSteps
 pub mod CallSteps
 pub mod TakeSteps
 pub mod ValueLaws
+pub mod ReadingLaws

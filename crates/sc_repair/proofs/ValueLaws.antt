@@ -69,7 +69,7 @@ cut-concat c (x ∷ xs) h =
     rw (take_at x (concat xs) c w, drop_at x (concat xs) c w, cut-concat c xs (All-tail (IsVector IsByte c) x xs h)) refl
 
 module _ (k m : ℕ) where
-  block-bytes : (block : List (List ℕ)) → IsBlock k m block → IsVector IsByte (k * m) (concat block)
+  pub block-bytes : (block : List (List ℕ)) → IsBlock k m block → IsVector IsByte (k * m) (concat block)
   block-bytes block h = subst (λ (n : ℕ). IsVector IsByte (n * m) (concat block)) h.width (concat-bytes m block h.entries)
 
   cut-block : (block : List (List ℕ)) → IsBlock k m block → cut k m (concat block) ≡ block
