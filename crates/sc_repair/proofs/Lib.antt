@@ -4,3 +4,4 @@ pub mod CallSteps
 pub mod TakeSteps
 pub mod ValueLaws
 pub mod ReadingLaws
+pub mod Growth
