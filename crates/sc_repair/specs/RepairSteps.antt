@@ -7,6 +7,7 @@ use Rattle.sc_outside.specs.Ends.{IsPrefix, IsProperPrefix}
 use Rattle.sc_outside.specs.Faults.{Rose}
 use Rattle.sc_outside.specs.Port.{Told, Moves, Takes}
 use Rattle.sc_rtpdump.specs.declared.fault.DumpFault.{DumpFault}
+use Rattle.sc_rtpdump.specs.declared.fault.DumpFault.TheVariants.{Memory as NoRoom}
 use Rattle.sc_rtpdump.specs.Capture.{records_bytes}
 use Rattle.sc_rtpdump.specs.Head.{StopsAt}
 use Rattle.sc_rtpdump.specs.Record.{Record, IsRecord, record_bytes}
@@ -136,3 +137,229 @@ PlaceCounts file s s' slot counts counts' (Ok (Ok u)) =
     × (((slot.number < s.passed) × (counts'.repeats ≡ counts.repeats + 1)) ⊎ ((s.passed ≤ slot.number) × (counts'.repeats ≡ counts.repeats)))
 PlaceCounts file s s' slot counts counts' (Ok (Err fault)) = (fault ≡ Write → ⊥) × (fault ≡ Memory → ⊥)
 PlaceCounts file s s' slot counts counts' (Err e) = Unit {0}
+
+-- ---- what is kept from one record to the next
+
+-- what is kept of the counts and the repairer goes on: no slot came where there is none
+abbrev pub IsGoing : CodeFile → Option Repairer → Counts → Type 0
+IsGoing file None counts = counts.missed ≡ 0
+IsGoing file (Some s) counts = IsSet file s counts.missed
+
+-- nothing is counted
+abbrev pub no_counts : Counts
+no_counts = record { missed = 0; strangers = 0; repeats = 0 }
+
+-- no more was counted than so many records have
+pub record AreFew (index : ℕ) (counts : Counts) : Type 0 where
+  pub strangers : counts.strangers ≤ index
+  pub repeats : counts.repeats ≤ index
+
+-- after these slots, none of which is refused; the symbols of all have as many bytes
+abbrev pub Keeps : CodeFile → List Slot → Option Repairer → ℕ → List ℕ → Type 0
+Keeps file slots None missed text = (slots ≡ []) × (text ≡ [])
+Keeps file slots (Some s) missed text = Rests file slots s missed text × (width_in slots ≡ s.m)
+
+-- these records came, none of which is refused
+pub record Knows (file : CodeFile) (records : List Record) (kept : Option Repairer) (counts : Counts) : Type 0 where
+  pub accepted : first_refused file records ≡ None
+  pub keeps : Keeps file (slots_in file records) kept counts.missed (values_text (values_so_far file records))
+  pub strangers : counts.strangers ≡ count_by (λ e. is_stranger (read_as file e)) records
+  pub repeats : length (slots_in file records) ≡ length (taken_of file (slots_in file records)) + counts.repeats
+
+-- ---- a slot, where a repairer may not be there yet
+
+-- what a slot answers; memory may run out where it is the first
+abbrev pub ComesIn : CodeFile → List Slot → Slot → Option Repairer → Told → Told → List ℕ → List ℕ → ℕ → List ℕ → Result (Result (Unit {0}) RepairEnd) Failed → Type 0
+ComesIn file slots slot kept' old new before after missed text (Ok (Ok u)) =
+    (slot_refusal file slots slot ≡ None)
+    × ((more : List ℕ) × GivesMore old new more before after × Keeps file (slots ++ slot ∷ []) kept' missed (text ++ more))
+ComesIn file slots slot kept' old new before after missed text (Ok (Err Memory)) = (slots ≡ []) × GivesMore old new [] before after
+ComesIn file slots slot kept' old new before after missed text (Ok (Err fault)) =
+    IsRefused (slot_refusal file slots slot) old new before after text fault
+ComesIn file slots slot kept' old new before after missed text (Err e) =
+    FallsShort (due_text (slot_refusal file slots slot) (values_of file (slots ++ slot ∷ []))) old new before text
+
+-- a slot repeats or it doesn't, by the slots that were taken before it
+abbrev pub CountsSlot : CodeFile → Slot → List Slot → Counts → Counts → Type 0
+CountsSlot file slot slots counts counts' =
+    ((slot.number < one_past (taken_of file slots)) × (counts'.repeats ≡ counts.repeats + 1))
+    ⊎ ((one_past (taken_of file slots) ≤ slot.number) × (counts'.repeats ≡ counts.repeats))
+
+abbrev pub ComesCounts : CodeFile → Slot → Option Repairer → Option Repairer → Counts → Counts → Result (Result (Unit {0}) RepairEnd) Failed → Type 0
+ComesCounts file slot kept kept' counts counts' (Ok (Ok u)) =
+    IsGoing file kept' counts' × (counts'.strangers ≡ counts.strangers) × (counts'.repeats ≤ counts.repeats + 1)
+    × ((slots : List Slot) (text : List ℕ) → Keeps file slots kept counts.missed text → CountsSlot file slot slots counts counts')
+ComesCounts file slot kept kept' counts counts' (Ok (Err fault)) = (fault ≡ Write → ⊥) × (fault ≡ TooManyRecords → ⊥)
+ComesCounts file slot kept kept' counts counts' (Err e) = Unit {0}
+
+-- ---- records
+
+-- what is due once these records came and then this one: all that is put out, up to a refusal
+abbrev pub due_after : CodeFile → List Record → Record → List ℕ
+due_after file records e = due_text (refusal file (length records) (slots_in file records) e) (values_so_far file (records ++ e ∷ []))
+
+-- What a record answers behind these, with the bytes that wait.
+abbrev pub RecordGives : CodeFile → List Record → Record → Told → Told → List ℕ → List ℕ → Option Repairer → Counts → Result (Result (Unit {0}) RepairEnd) Failed → Type 0
+RecordGives file records e old new before after kept' counts' (Ok (Ok u)) =
+    Knows file (records ++ e ∷ []) kept' counts'
+    × ((more : List ℕ) × GivesMore old new more before after × (values_text (values_so_far file (records ++ e ∷ [])) ≡ values_text (values_so_far file records) ++ more))
+RecordGives file records e old new before after kept' counts' (Ok (Err Memory)) = (values_so_far file records ≡ []) × GivesMore old new [] before after
+RecordGives file records e old new before after kept' counts' (Ok (Err fault)) =
+    IsRefused (refusal file (length records) (slots_in file records) e) old new before after (values_text (values_so_far file records)) fault
+RecordGives file records e old new before after kept' counts' (Err u) =
+    FallsShort (due_after file records e) old new before (values_text (values_so_far file records))
+
+abbrev pub RecordCounts : CodeFile → ℕ → Option Repairer → Counts → Result (Result (Unit {0}) RepairEnd) Failed → Type 0
+RecordCounts file index kept' counts' (Ok (Ok u)) = IsGoing file kept' counts' × AreFew (index + 1) counts'
+RecordCounts file index kept' counts' (Ok (Err fault)) = (fault ≡ Write → ⊥) × (fault ≡ TooManyRecords → ⊥)
+RecordCounts file index kept' counts' (Err u) = Unit {0}
+
+-- ---- reading and repairing
+
+-- a record was read, and what is due then was written
+pub record TakesRecord (file : CodeFile) (records : List Record) (old new : Told) (kept' : Option Repairer) (counts' : Counts) : Type 0 where
+  pub next : Record
+  pub fits : IsRecord next
+  pub more : List ℕ
+  pub moves : Moves old new (record_bytes next) more
+  pub knows : Knows file (records ++ next ∷ []) kept' counts'
+  pub parts : values_text (values_so_far file (records ++ next ∷ [])) ≡ values_text (values_so_far file records) ++ more
+
+-- a record was read, and a write failed within what is due then
+pub record LosesRecord (file : CodeFile) (records : List Record) (old new : Told) : Type 0 where
+  pub next : Record
+  pub fits : IsRecord next
+  pub put : List ℕ
+  pub moves : Moves old new (record_bytes next) put
+  pub short : IsProperPrefix (values_text (values_so_far file records) ++ put) (due_after file records next)
+  pub rose : Rose old.write_faults new.write_faults
+
+-- the first slot came, and there was no memory
+pub record LacksMemory (file : CodeFile) (records : List Record) (old new : Told) : Type 0 where
+  pub next : Record
+  pub fits : IsRecord next
+  pub moves : Moves old new (record_bytes next) []
+  pub none : values_so_far file records ≡ []
+
+-- a record was read and is refused, and what is due then was written
+pub record RefusesRecord (file : CodeFile) (records : List Record) (old new : Told) (fault : RepairEnd) : Type 0 where
+  pub next : Record
+  pub fits : IsRecord next
+  pub refused : Refusal
+  pub is_why : refusal file (length records) (slots_in file records) next ≡ Some refused
+  pub is_fault : refused.fault ≡ fault
+  pub more : List ℕ
+  pub moves : Moves old new (record_bytes next) more
+  pub is_text : values_text refused.values ≡ values_text (values_so_far file records) ++ more
+
+-- the reading of a record stopped
+pub record StopsReading (index : ℕ) (old new : Told) (fault : DumpFault) : Type 0 where
+  pub tail : List ℕ
+  pub moves : Moves old new tail []
+  pub at : StopsAt index old new tail fault
+
+-- why no record was taken behind these
+abbrev pub HaltsAt : CodeFile → List Record → Told → Told → RepairEnd → Type 0
+HaltsAt file records old new (Dump fault) = StopsReading (length records) old new fault
+HaltsAt file records old new Write = LosesRecord file records old new
+HaltsAt file records old new Memory = LacksMemory file records old new
+HaltsAt file records old new fault = RefusesRecord file records old new fault
+
+-- what taking a record answers: true where it was taken, false at the end of the input
+abbrev pub TakeGives : CodeFile → List Record → Told → Told → Option Repairer → Option Repairer → Counts → Counts → Result Bool RepairEnd → Type 0
+TakeGives file records old new kept kept' counts counts' (Ok true) = TakesRecord file records old new kept' counts'
+TakeGives file records old new kept kept' counts counts' (Ok false) = Moves old new [] [] × IsAtEnd new.left × (kept' ≡ kept) × (counts' ≡ counts)
+TakeGives file records old new kept kept' counts counts' (Err fault) = HaltsAt file records old new fault
+
+abbrev pub TakeCounts : CodeFile → ℕ → Option Repairer → Counts → Result Bool RepairEnd → Type 0
+TakeCounts file index kept' counts' (Ok true) = IsGoing file kept' counts' × AreFew (index + 1) counts'
+TakeCounts file index kept' counts' (Ok false) = IsGoing file kept' counts' × AreFew index counts'
+TakeCounts file index kept' counts' (Err fault) = Unit {0}
+
+-- ---- many records
+
+-- these records were taken, none of which is refused, and what is due then was written
+pub record Reached (file : CodeFile) (old new : Told) (records : List Record) (kept : Option Repairer) (counts : Counts) : Type 0 where
+  pub fit : AllByRecursion IsRecord records
+  pub knows : Knows file records kept counts
+  pub moves : Moves old new (records_bytes records) (values_text (values_so_far file records))
+
+-- all were taken
+pub record TakesAll (file : CodeFile) (old new : Told) (kept : Option Repairer) (counts : Counts) : Type 0 where
+  pub records : List Record
+  pub reached : Reached file old new records kept counts
+  pub end : IsAtEnd new.left
+
+-- some were taken, and no more behind them
+pub record HaltsAfter (file : CodeFile) (old new : Told) (fault : RepairEnd) : Type 0 where
+  pub records : List Record
+  pub mid : Told
+  pub kept : Option Repairer
+  pub counts : Counts
+  pub reached : Reached file old mid records kept counts
+  pub at : HaltsAt file records mid new fault
+
+-- what taking the records behind a preamble answers
+abbrev pub RecordsGive : CodeFile → Told → Told → Option Repairer → Counts → Result (Unit {0}) RepairEnd → Type 0
+RecordsGive file old new kept counts (Ok u) = TakesAll file old new kept counts
+RecordsGive file old new kept counts (Err fault) = HaltsAfter file old new fault
+
+-- ---- the last slots
+
+-- the last slots were put out, and none is bad
+pub record GivesLast (file : CodeFile) (records : List Record) (old new : Told) (answer : Repaired) : Type 0 where
+  pub more : List ℕ
+  pub moves : Moves old new [] more
+  pub left : new.left ≡ old.left
+  pub good : bad_among (last_values file (slots_in file records)) ≡ None
+  pub parts : values_text (last_values file (slots_in file records)) ≡ values_text (values_so_far file records) ++ more
+  pub answered : answer ≡ numbers file records
+
+-- or one is bad
+pub record RefusesLast (file : CodeFile) (records : List Record) (old new : Told) (fault : RepairEnd) : Type 0 where
+  pub more : List ℕ
+  pub moves : Moves old new [] more
+  pub left : new.left ≡ old.left
+  pub refused : Refusal
+  pub is_why : bad_among (last_values file (slots_in file records)) ≡ Some refused
+  pub is_fault : refused.fault ≡ fault
+  pub parts : values_text refused.values ≡ values_text (values_so_far file records) ++ more
+
+-- what is due at the end of the input
+abbrev pub last_due : CodeFile → List Record → List ℕ
+last_due file records = due_text (bad_among (last_values file (slots_in file records))) (last_values file (slots_in file records))
+
+-- or a write failed within what is due then
+pub record LosesLast (file : CodeFile) (records : List Record) (old new : Told) : Type 0 where
+  pub put : List ℕ
+  pub moves : Moves old new [] put
+  pub left : new.left ≡ old.left
+  pub short : IsProperPrefix (values_text (values_so_far file records) ++ put) (last_due file records)
+  pub rose : Rose old.write_faults new.write_faults
+
+-- what putting out the last slots answers
+abbrev pub LastGives : CodeFile → List Record → Told → Told → Result Repaired RepairEnd → Type 0
+LastGives file records old new (Ok answer) = GivesLast file records old new answer
+LastGives file records old new (Err Write) = LosesLast file records old new
+LastGives file records old new (Err (BadBlock t)) = RefusesLast file records old new (BadBlock t)
+LastGives file records old new (Err fault) = ⊥
+
+-- all records behind a preamble were taken, and then the last slots put out
+pub record EndsWith (file : CodeFile) (old new : Told) (result : Result Repaired RepairEnd) : Type 0 where
+  pub mid : Told
+  pub kept : Option Repairer
+  pub counts : Counts
+  pub records : List Record
+  pub reached : Reached file old mid records kept counts
+  pub end : IsAtEnd mid.left
+  pub last : LastGives file records mid new result
+
+-- what repairing behind a preamble answers
+abbrev pub RestGives : CodeFile → Told → Told → Result Repaired RepairEnd → Type 0
+RestGives file old new (Ok answer) = EndsWith file old new (Ok answer)
+RestGives file old new (Err fault) = HaltsAfter file old new fault ⊎ EndsWith file old new (Err fault)
+
+-- the fault of repairing where reading a preamble had this one
+abbrev pub fault_of : DumpFault → RepairEnd
+fault_of NoRoom = Memory
+fault_of fault = Dump fault

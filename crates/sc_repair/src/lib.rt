@@ -6,7 +6,7 @@ mod put;
 mod repair;
 mod repairer;
 
-pub use repair::{RepairEnd, Repaired};
+pub use repair::{RepairEnd, Repaired, repair_all};
 pub use repairer::{EndState, MAX_SLOTS, Put, Repairer, TakeFault, Unfit};
 
 #[cfg(test)]

@@ -1,18 +1,22 @@
 //! Repair of a capture of protected packets.
-ghost use Rattle.std.specs.Prelude.{◌≡◌, ◌+◌, ◌*◌, ◌<◌, ◌≤◌, ◌∷◌, ◌++◌, [], ℕ, List, false, length};
+ghost use Rattle.std.specs.Prelude.{◌≡◌, ◌+◌, ◌*◌, ◌<◌, ◌≤◌, ◌∷◌, ◌++◌, [], ℕ, List, false, length, None, IfOk};
+ghost use Rattle.sc_outside.specs.Ends.{Ends};
+ghost use Rattle.sc_rtpdump.specs.Record.{Record};
+ghost use Rattle.sc_code.specs.declared.code.CodeFile.{CodeFile as CodeFileOf};
 ghost use Rattle.sc_slots.specs.Answers.{slot_in};
 ghost use Rattle.sc_slots.specs.Slot.{IsSlot, Slot as SlotOf};
 ghost use Rattle.sc_slots.specs.Taken.{Taken, taken_slot};
 ghost use Rattle.sc_repair.specs.Repairer.{FitsEnd};
-ghost use Rattle.sc_repair.specs.Repairing.{width_in};
-ghost use Rattle.sc_repair.specs.RepairSteps.{IsReady, IsSet, PassCounts, PassGives, PlaceCounts, PlaceGives, Rests, SlotCounts, SlotGives};
+ghost use Rattle.sc_repair.specs.Repairing.{repairing, width_in};
+ghost use Rattle.sc_repair.specs.RepairSteps.{AreFew, ComesCounts, ComesIn, IsGoing, IsReady, IsSet, Keeps, Knows, LastGives, PassCounts, PassGives, PlaceCounts, PlaceGives, RecordCounts, RecordGives, RecordsGive, RestGives, Rests, SlotCounts, SlotGives, TakeCounts, TakeGives, fault_of, no_counts};
 
 use super::put::put_all;
 use super::repairer::{MAX_SLOTS, Repairer, TakeFault, Unfit};
 use sc_code::CodeFile;
-use sc_outside::{Failed, Pending, Port};
-use sc_rtpdump::DumpFault;
-use sc_slots::Slot;
+use sc_outside::{Failed, NoMemory, Pending, Port, write_whole};
+use sc_rtpdump::{DumpFault, DumpRecord, next_record, read_preamble};
+use sc_slots::{Slot, SlotReading, read_slot};
+use std::alloc::Global;
 use std::error::Error;
 use std::fmt;
 
@@ -80,6 +84,18 @@ impl fmt::Display for RepairEnd {
 }
 
 impl Error for RepairEnd {}
+
+impl RepairEnd {
+    /// Why repairing ended where reading a preamble did.
+    fn of(fault: DumpFault) -> RepairEnd
+        ensures { result ≡ fault_of fault }
+    {
+        match fault {
+            DumpFault::Memory => RepairEnd::Memory,
+            _ => RepairEnd::Dump(fault),
+        }
+    }
+}
 
 /// What is counted from one record to the next.
 #[derive(Clone, Copy, Debug, PartialEq, Eq)]
@@ -175,4 +191,265 @@ fn place_slot<P: Port>(
         return Ok(Err(RepairEnd::Unfit(unfit)));
     }
     take_slot(file, repairer, slot, port, pending, &mut counts.missed)
+}
+
+/// Takes a slot. The first one starts the repairer, whose symbols have as many bytes as its own.
+fn come_in<P: Port>(
+    alloc: Global,
+    file: &CodeFile,
+    kept: &mut Option<Repairer>,
+    slot: &Slot<'_>,
+    port: &mut P,
+    pending: &mut Pending,
+    counts: &mut Counts,
+) -> Result<Result<(), RepairEnd>, Failed>
+    requires going { IsGoing file.now kept.old counts.old }
+    requires few { counts.old.repeats < MAX_RECORDS }
+    requires slot { IsSlot file.now.code.k file.now.code.r file.now.channel.t (slot_in slot.now) }
+    ensures gives { (slots : List SlotOf) (text : List ℕ) → Keeps file.now slots kept.old counts.old.missed text
+        → ComesIn file.now slots (slot_in slot.now) kept.new (P.told port.old) (P.told port.new) pending.old pending.new counts.new.missed text result }
+    ensures counts { ComesCounts file.now (slot_in slot.now) kept.old kept.new counts.old counts.new result }
+{
+    if slot.number >= MAX_SLOTS {
+        return Ok(Err(RepairEnd::TooManySlots(slot.number)));
+    }
+    let mut repairer = match kept.take() {
+        Some(repairer) => repairer,
+        None => match Repairer::start(alloc, &file.code, file.channel.t(), slot.m) {
+            Ok(repairer) => repairer,
+            Err(_) => return Ok(Err(RepairEnd::Memory)),
+        },
+    };
+    let end = place_slot(file, &mut repairer, slot, port, pending, counts)?;
+    *kept = Some(repairer);
+    Ok(end)
+}
+
+/// Takes a record: what it is read as, and what follows from that.
+fn take_record<P: Port>(
+    alloc: Global,
+    file: &CodeFile,
+    index: u32,
+    rec: &DumpRecord,
+    kept: &mut Option<Repairer>,
+    port: &mut P,
+    pending: &mut Pending,
+    counts: &mut Counts,
+) -> Result<Result<(), RepairEnd>, Failed>
+    requires index { index < MAX_RECORDS }
+    requires going { IsGoing file.now kept.old counts.old }
+    requires few { AreFew index counts.old }
+    ensures gives { (records : List Record) → length records ≡ index → Knows file.now records kept.old counts.old
+        → RecordGives file.now records rec.now (P.told port.old) (P.told port.new) pending.old pending.new kept.new counts.new result }
+    ensures counts { RecordCounts file.now index kept.new counts.new result }
+{
+    match read_slot(rec, file.code.k(), file.code.r(), file.channel.t()) {
+        SlotReading::Stranger => {
+            counts.strangers += 1;
+            Ok(Ok(()))
+        }
+        SlotReading::WrongCode => Ok(Err(RepairEnd::WrongCode(index))),
+        SlotReading::BadShape => Ok(Err(RepairEnd::BadShape(index))),
+        SlotReading::Slot(slot) => come_in(alloc, file, kept, &slot, port, pending, counts),
+    }
+}
+
+/// What repairing keeps from one record to the next.
+#[derive(Drop)]
+struct Repair {
+    record: DumpRecord,
+    pending: Pending,
+    kept: Option<Repairer>,
+    counts: Counts,
+}
+
+impl Repair {
+    /// With no record taken. It takes the memory for a record and for the bytes that wait.
+    fn start(alloc: Global) -> Result<Repair, NoMemory>
+        ensures empty { IfOk result (λ s. s.pending ≡ []) }
+        ensures none { IfOk result (λ s. s.kept ≡ None) }
+        ensures zero { IfOk result (λ s. s.counts ≡ no_counts) }
+    {
+        let pending = Pending::new(alloc)?;
+        let record = DumpRecord::start(alloc)?;
+        Ok(Repair {
+            record,
+            pending,
+            kept: None,
+            counts: Counts {
+                missed: 0,
+                strangers: 0,
+                repeats: 0,
+            },
+        })
+    }
+}
+
+/// Reads the record of this number and takes it: all that is due then is written before the call ends. False at the end of
+/// the input.
+fn take_one<P: Port>(
+    alloc: Global,
+    port: &mut P,
+    file: &CodeFile,
+    index: u32,
+    state: &mut Repair,
+) -> Result<bool, RepairEnd>
+    requires index { index < MAX_RECORDS }
+    requires empty { state.old.pending ≡ [] }
+    requires going { IsGoing file.now state.old.kept state.old.counts }
+    requires few { AreFew index state.old.counts }
+    ensures empty { IfOk result (λ _. state.new.pending ≡ []) }
+    ensures gives { (records : List Record) → length records ≡ index → Knows file.now records state.old.kept state.old.counts
+        → TakeGives file.now records (P.told port.old) (P.told port.new) state.old.kept state.new.kept state.old.counts state.new.counts result }
+    ensures counts { TakeCounts file.now index state.new.kept state.new.counts result }
+{
+    match next_record(port, index, &mut state.record) {
+        Ok(true) => {}
+        Ok(false) => return Ok(false),
+        Err(fault) => return Err(RepairEnd::Dump(fault)),
+    }
+    let Ok(end) = take_record(
+        alloc,
+        file,
+        index,
+        &state.record,
+        &mut state.kept,
+        port,
+        &mut state.pending,
+        &mut state.counts,
+    ) else {
+        return Err(RepairEnd::Write);
+    };
+    let Ok(()) = state.pending.flush(port) else {
+        return Err(RepairEnd::Write);
+    };
+    match end {
+        Ok(()) => Ok(true),
+        Err(fault) => Err(fault),
+    }
+}
+
+/// Takes the records behind a preamble, to the end of the input.
+fn take_records<P: Port>(
+    alloc: Global,
+    port: &mut P,
+    file: &CodeFile,
+    state: &mut Repair,
+) -> Result<(), RepairEnd>
+    requires empty { state.old.pending ≡ [] }
+    requires none { state.old.kept ≡ None }
+    requires zero { state.old.counts ≡ no_counts }
+    ensures empty { IfOk result (λ _. state.new.pending ≡ []) }
+    ensures gives { RecordsGive file.now (P.told port.old) (P.told port.new) state.new.kept state.new.counts result }
+    ensures going { IfOk result (λ _. IsGoing file.now state.new.kept state.new.counts) }
+{
+    for index in 0..MAX_RECORDS {
+        if !take_one(alloc, port, file, index, state)? {
+            return Ok(());
+        }
+    }
+    match next_record(port, MAX_RECORDS, &mut state.record) {
+        Ok(true) => Err(RepairEnd::TooManyRecords),
+        Ok(false) => Ok(()),
+        Err(fault) => Err(RepairEnd::Dump(fault)),
+    }
+}
+
+/// Puts out the last slots, once all records were taken.
+fn put_last<P: Port>(port: &mut P, state: &mut Repair) -> Result<Repaired, RepairEnd>
+    requires empty { state.old.pending ≡ [] }
+    ensures { (file : CodeFileOf) (records : List Record) → IsGoing file state.old.kept state.old.counts → Knows file records state.old.kept state.old.counts
+        → LastGives file records (P.told port.old) (P.told port.new) result }
+{
+    let end = match &mut state.kept {
+        None => 0,
+        Some(repairer) => {
+            let end = repairer.finish();
+            let all = put_all(
+                repairer,
+                port,
+                &mut state.pending,
+                &mut state.counts.missed,
+            );
+            let Ok(bad) = all else {
+                return Err(RepairEnd::Write);
+            };
+            let Ok(()) = state.pending.flush(port) else {
+                return Err(RepairEnd::Write);
+            };
+            if let Some(slot) = bad {
+                return Err(RepairEnd::BadBlock(slot));
+            }
+            end
+        }
+    };
+    Ok(Repaired {
+        end,
+        missed: state.counts.missed,
+        strangers: state.counts.strangers,
+        repeats: state.counts.repeats,
+    })
+}
+
+/// Repairs a capture, with what it takes to do so but the preamble and the repairer.
+fn repair_capture<P: Port>(
+    alloc: Global,
+    port: &mut P,
+    file: &CodeFile,
+    state: &mut Repair,
+) -> Result<Repaired, RepairEnd>
+    requires empty { state.old.pending ≡ [] }
+    requires none { state.old.kept ≡ None }
+    requires zero { state.old.counts ≡ no_counts }
+    ensures { Ends (repairing file.now) (P.told port.old) (P.told port.new) result }
+{
+    let preamble = match read_preamble(alloc, port) {
+        Ok(preamble) => preamble,
+        Err(fault) => return Err(RepairEnd::of(fault)),
+    };
+    let Ok(()) = write_whole(port, preamble.bytes()) else {
+        return Err(RepairEnd::Write);
+    };
+    repair_rest(alloc, port, file, state)
+}
+
+/// Repairs the records behind a preamble.
+fn repair_rest<P: Port>(
+    alloc: Global,
+    port: &mut P,
+    file: &CodeFile,
+    state: &mut Repair,
+) -> Result<Repaired, RepairEnd>
+    requires empty { state.old.pending ≡ [] }
+    requires none { state.old.kept ≡ None }
+    requires zero { state.old.counts ≡ no_counts }
+    ensures { RestGives file.now (P.told port.old) (P.told port.new) result }
+{
+    take_records(alloc, port, file, state)?;
+    put_last(port, state)
+}
+
+/// Repairs a capture of protected packets: writes its preamble, and the packets of the blocks that what arrives determines,
+/// each as soon as it is determined and before any byte of a later record is read.
+///
+/// It takes memory for a preamble, a record and the bytes that wait before it reads, and for the [`Repairer`] at the first
+/// slot; `Memory` comes only where that isn't there, and then no more than the preamble was written.
+///
+/// The refusals come in the order of records, and within a record in this order: `Dump` as in [`read_preamble`] and
+/// [`sc_rtpdump::next_record`]; `TooManyRecords` exactly at a record behind 8,000,000 others; `WrongCode` and `BadShape` as in
+/// [`sc_slots::read_slot`]; `TooManySlots` exactly at a slot numbered 4,000,000 or more; `Unfit` as in [`Repairer::fits`];
+/// `BadBlock` exactly where the next slot to be put out is neither zero nor a frame; `Clash` exactly where no stream has this
+/// slot and all taken ones. A slot with the number of one passed before it is counted as a repeat, whatever it says. `Write`
+/// comes only where a write failed. After a refusal all that was put out before it was written; after a failed write less.
+pub fn repair_all<P: Port>(
+    alloc: Global,
+    file: &CodeFile,
+    port: &mut P,
+) -> Result<Repaired, RepairEnd>
+    ensures ends { Ends (repairing file.now) (P.told port.old) (P.told port.new) result }
+{
+    let Ok(mut state) = Repair::start(alloc) else {
+        return Err(RepairEnd::Memory);
+    };
+    repair_capture(alloc, port, file, &mut state)
 }
