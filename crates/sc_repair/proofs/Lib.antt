@@ -8,3 +8,4 @@ pub mod Growth
 pub mod PutSteps
 pub mod NextSteps
 pub mod AllSteps
+pub mod PassSteps
