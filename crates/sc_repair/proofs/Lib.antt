@@ -9,3 +9,5 @@ pub mod PutSteps
 pub mod NextSteps
 pub mod AllSteps
 pub mod PassSteps
+pub mod SlotSteps
+pub mod PlaceSteps

@@ -11,7 +11,7 @@ ghost use Rattle.sc_repair.specs.Repairing.{repairing, width_in};
 ghost use Rattle.sc_repair.specs.RepairSteps.{AreFew, ComesCounts, ComesIn, IsGoing, IsReady, IsSet, Keeps, Knows, LastGives, PassCounts, PassGives, PlaceCounts, PlaceGives, RecordCounts, RecordGives, RecordsGive, RestGives, Rests, SlotCounts, SlotGives, TakeCounts, TakeGives, fault_of, no_counts};
 
 use super::put::put_all;
-use super::repairer::{MAX_SLOTS, Repairer, TakeFault, Unfit};
+use super::repairer::{MAX_SLOTS, Repairer, Unfit};
 use sc_code::CodeFile;
 use sc_outside::{Failed, NoMemory, Pending, Port, write_whole};
 use sc_rtpdump::{DumpFault, DumpRecord, next_record, read_preamble};
@@ -160,7 +160,7 @@ fn take_slot<P: Port>(
     }
     match repairer.take(&file.code, slot) {
         Ok(()) => {}
-        Err(TakeFault::Clash(number)) => return Ok(Err(RepairEnd::Clash(number))),
+        Err(_) => return Ok(Err(RepairEnd::Clash(slot.number))),
     }
     match put_all(repairer, port, pending, missed)? {
         None => Ok(Ok(())),

@@ -11,18 +11,18 @@ use Rattle.sc_repair.specs.Repairing.{repairing, width_in}
 use Rattle.sc_repair.specs.RepairSteps.{AreFew, ComesCounts, ComesIn, IsGoing, IsReady, IsSet, Keeps, Knows, LastGives, PassCounts, PassGives, PlaceCounts, PlaceGives, RecordCounts, RecordGives, RecordsGive, RestGives, Rests, SlotCounts, SlotGives, TakeCounts, TakeGives, fault_of, no_counts}
 use Rattle.sc_repair.proofs.repair.come_in.Goals as goal
 
--- src/repair.rt:214:9
+-- src/repair.rt:217:9
 pub returns-then-slot-ge-MAX_SLOTS-clause-gives : goal.returns-then-slot-ge-MAX_SLOTS-clause-gives
 returns-then-slot-ge-MAX_SLOTS-clause-gives g c = ?
 
--- src/repair.rt:223:15
+-- src/repair.rt:226:15
 pub returns-in_err-end-clause-gives : goal.returns-in_err-end-clause-gives
 returns-in_err-end-clause-gives g c = ?
 
--- src/repair.rt:197:1
+-- src/repair.rt:200:1
 pub returns-clause-gives : goal.returns-clause-gives
 returns-clause-gives g c = ?
 
--- src/repair.rt:197:1
+-- src/repair.rt:200:1
 pub returns-clause-counts : goal.returns-clause-counts
 returns-clause-counts g c = ?
