@@ -157,7 +157,7 @@ pub record AreFew (index : ℕ) (counts : Counts) : Type 0 where
 -- after these slots, none of which is refused; the symbols of all have as many bytes
 abbrev pub Keeps : CodeFile → List Slot → Option Repairer → ℕ → List ℕ → Type 0
 Keeps file slots None missed text = (slots ≡ []) × (text ≡ [])
-Keeps file slots (Some s) missed text = Rests file slots s missed text × (width_in slots ≡ s.m)
+Keeps file slots (Some s) missed text = Rests file slots s missed text × (width_in slots ≡ s.m) × (0 < length slots)
 
 -- these records came, none of which is refused
 pub record Knows (file : CodeFile) (records : List Record) (kept : Option Repairer) (counts : Counts) : Type 0 where
@@ -167,6 +167,11 @@ pub record Knows (file : CodeFile) (records : List Record) (kept : Option Repair
   pub repeats : length (slots_in file records) ≡ length (taken_of file (slots_in file records)) + counts.repeats
 
 -- ---- a slot, where a repairer may not be there yet
+
+-- it stands for what came before, and its symbols have as many bytes as those of a slot that comes
+abbrev pub Resumes : CodeFile → Option Repairer → ℕ → ℕ → Repairer → Type 0
+Resumes file kept missed m s =
+    (slots : List Slot) (text : List ℕ) (one : Slot) → one.m ≡ m → Keeps file slots kept missed text → Rests file slots s missed text × ((slots ≡ [] → one.m ≡ s.m) → width_in (slots ++ one ∷ []) ≡ s.m)
 
 -- what a slot answers; memory may run out where it is the first
 abbrev pub ComesIn : CodeFile → List Slot → Slot → Option Repairer → Told → Told → List ℕ → List ℕ → ℕ → List ℕ → Result (Result (Unit {0}) RepairEnd) Failed → Type 0
