@@ -5,3 +5,5 @@ pub mod TakeSteps
 pub mod ValueLaws
 pub mod ReadingLaws
 pub mod Growth
+pub mod JobLaws
+pub mod RecordSteps

@@ -8,3 +8,4 @@ pub mod Readings
 pub mod Repairing
 pub mod Steps
 pub mod RepairSteps
+pub mod RepairLaws
