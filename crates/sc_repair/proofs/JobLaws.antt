@@ -1,10 +1,9 @@
 -- Repairing is a job: what is due grows with what was read, and what the input decides is none of the answers of the outside.
-use Rattle.std.proofs.Common.{◌≡◌, ℕ, zero as naught, suc, ◌+◌, ◌<◌, ◌≤◌, nat_lt, nat_le, nat_eq, Bool, true, false, cond, List, [], ◌∷◌, ◌++◌, length, take, position, Option, Some, None, option_map, Result, Ok, Err, refl, sym, ap, ap₂, ◌∙◌, subst, arith, append-nil, append_assoc}
+use Rattle.std.proofs.Common.{◌≡◌, ℕ, zero as naught, suc, ◌+◌, ◌<◌, ◌≤◌, nat_lt, nat_le, nat_eq, Bool, true, false, cond, List, [], ◌∷◌, ◌++◌, length, take, position, Option, Some, None, option_map, Err, refl, sym, ap, ◌∙◌, subst, arith, append-nil, append_assoc}
 use Rattle.std.proofs.lemmas.Bool.{ltb-true, ltb-false, eqb-true}
 use Rattle.std.proofs.lemmas.Option.{none-some}
 use Rattle.sc_outside.specs.Ends.{IsPrefix, IsJob}
 use Rattle.sc_outside.proofs.EndsLaws.{IsPrefix-refl, IsPrefix-nil, IsPrefix-trans}
-use Rattle.sc_rtpdump.specs.declared.fault.DumpFault.TheVariants.{Read}
 use Rattle.sc_rtpdump.specs.Record.{Record, short_head, short_length, cut_body, Front, ends, breaks, starts, front_of}
 use Rattle.sc_rtpdump.specs.Preamble.{IsPreamble, preamble_len}
 use Rattle.sc_rtpdump.specs.Capture.{Parts, parts_of, Reading as CaptureReading, no_preamble, reads, reading_of}
@@ -14,18 +13,17 @@ use Rattle.sc_field.specs.Gf256.{gf256_product}
 use Rattle.sc_code.specs.declared.code.CodeFile.{CodeFile}
 use Rattle.sc_code.proofs.FirstBytesLaws.{option_map-some}
 use Rattle.sc_slots.specs.Slot.{Slot, Reading, stranger, wrong_code, bad_shape, slot}
-use Rattle.sc_slots.specs.Taken.{Taken, AllBelow, taken_slot, one_past}
+use Rattle.sc_slots.specs.Taken.{Taken, taken_slot, one_past}
 use Rattle.sc_slots.specs.Repair.{HasNoClash}
 use Rattle.sc_slots.proofs.EndLaws.{AllBelow-one_past, one_past-push}
 use Rattle.sc_slots.proofs.FitLaws.{AllFrom-one}
-use Rattle.sc_slots.proofs.SettledLaws.{HasNoClash-iff_consistent, HasNoClash-earlier}
+use Rattle.sc_slots.proofs.SettledLaws.{HasNoClash-iff_consistent}
 use Rattle.sc_repair.specs.declared.repair.RepairEnd.{RepairEnd}
 use Rattle.sc_repair.specs.declared.repair.RepairEnd.TheVariants.{Dump, TooManyRecords, WrongCode, BadShape, TooManySlots, Unfit, Clash, BadBlock, Write, Memory}
-use Rattle.sc_repair.specs.declared.repair.Repaired.{Repaired}
 use Rattle.sc_repair.specs.declared.repairer.Unfit.{Unfit as Misfit}
 use Rattle.sc_repair.specs.RepairLaws.{IsOfInput}
-use Rattle.sc_repair.specs.Values.{is_consistent, put_values, outcomes}
-use Rattle.sc_repair.specs.Repairing.{Refusal, slots_of, width_in, values_text, is_bad_value, first_of, bad_among, read_as, slots_in, taken_of, put_of, values_of, still, misfit, stop_by, stop_at, refusal_by, slot_refusal, reading_refusal, refusal, refusal_at, first_below, first_refused, values_so_far, last_values, text_by, text_so_far, preamble_of, due_at_end, due_behind, due_by, due_of, repairing}
+use Rattle.sc_repair.specs.Values.{is_consistent}
+use Rattle.sc_repair.specs.Repairing.{Refusal, slots_of, width_in, values_text, is_bad_value, first_of, bad_among, read_as, slots_in, taken_of, put_of, values_of, misfit, stop_by, stop_at, refusal_by, slot_refusal, reading_refusal, refusal, refusal_at, first_below, first_refused, values_so_far, last_values, text_by, text_so_far, preamble_of, due_at_end, due_behind, due_by, due_of, repairing}
 use Rattle.sc_repair.proofs.Growth.{values_text-append, bad_behind, bad_among-behind, taken_of-push, taken_of-repeat, slots_in-push, first_refused-push, first_refused-stays, first_refused-earlier}
 use Rattle.sc_repair.proofs.ValueLaws.{is_consistent-true, put_values-le, put_values-grow, put_values-later, no_clash_at_end, outcomes-begin}
 
@@ -250,7 +248,7 @@ module _ (file : CodeFile) where
       (record-goes (length records) (slots_in file records) e good)
 
   -- where the records before it aren't refused, it decides
-  push-refused : (records : List Record) (e : Record) → first_refused file records ≡ None → first_refused file (records ++ e ∷ []) ≡ refusal file (length records) (slots_in file records) e
+  pub push-refused : (records : List Record) (e : Record) → first_refused file records ≡ None → first_refused file (records ++ e ∷ []) ≡ refusal file (length records) (slots_in file records) e
   push-refused records e none = first_refused-push file records e ∙ ap (λ (o : Option Refusal). first_of o (refusal file (length records) (slots_in file records) e)) none
 
   good_along : (done more : List Record) → AreGood (slots_in file done) → first_refused file done ≡ None → first_refused file (done ++ more) ≡ None → AreGood (slots_in file (done ++ more))

@@ -7,3 +7,4 @@ pub mod ReadingLaws
 pub mod Growth
 pub mod JobLaws
 pub mod RecordSteps
+pub mod EndSteps

@@ -1,9 +1,7 @@
 -- The steps of repairing: one record, and many.
-use Rattle.std.proofs.Common.{◌≡◌, ℕ, ◌+◌, ◌<◌, ◌≤◌, nat_le, List, [], ◌∷◌, ◌++◌, length, Option, Some, None, Result, Ok, Err, refl, sym, ap, ◌∙◌, subst, arith, append-nil, append_assoc, length-append}
+use Rattle.std.proofs.Common.{◌≡◌, ℕ, ◌+◌, ◌≤◌, nat_le, List, [], ◌∷◌, ◌++◌, length, Option, Some, None, Result, Ok, Err, refl, sym, ap, ◌∙◌, subst, arith, append-nil, append_assoc, length-append}
 use Rattle.std.specs.Io.KnownBytes.{IsAtEnd}
-use Rattle.std.specs.List.{AllByRecursion}
 use Rattle.std.proofs.lemmas.Bool.{cond-true, le-leb}
-use Rattle.sc_outside.specs.Ends.{IsPrefix}
 use Rattle.sc_outside.specs.Pending.{FlushFailed}
 use Rattle.sc_outside.specs.Port.{Told, Moves, Takes, Puts}
 use Rattle.sc_outside.specs.Whole.{PutsAll}
@@ -17,14 +15,14 @@ use Rattle.sc_rtpdump.proofs.ThinLaws.{records_bytes-append}
 use Rattle.sc_rtpdump.proofs.ThinSteps.{All-append}
 use Rattle.sc_code.specs.declared.code.CodeFile.{CodeFile}
 use Rattle.sc_slots.specs.Slot.{Slot}
-use Rattle.sc_slots.specs.ProtectSteps.{GivesMore, LosesMore}
+use Rattle.sc_slots.specs.ProtectSteps.{GivesMore}
 use Rattle.sc_slots.proofs.FlushSteps.{last_given, last_failed}
 use Rattle.sc_repair.specs.declared.repair.Counts.{Counts}
 use Rattle.sc_repair.specs.declared.repair.RepairEnd.{RepairEnd}
 use Rattle.sc_repair.specs.declared.repair.RepairEnd.TheVariants.{Dump, TooManyRecords, WrongCode, BadShape, TooManySlots, Unfit, Clash, BadBlock, Write, Memory}
 use Rattle.sc_repair.specs.Repairer.{Repairer}
-use Rattle.sc_repair.specs.Repairing.{Refusal, first_of, values_text, slots_in, still, refusal, reading_refusal, read_as, first_refused, values_so_far}
-use Rattle.sc_repair.specs.RepairSteps.{IsRefused, due_text, FallsShort, Knows, no_counts, due_after, RecordGives, TakesRecord, LosesRecord, LacksMemory, RefusesRecord, StopsReading, HaltsAt, Reached, TakesAll, HaltsAfter}
+use Rattle.sc_repair.specs.Repairing.{Refusal, first_of, values_text, slots_in, still, refusal, first_refused, values_so_far}
+use Rattle.sc_repair.specs.RepairSteps.{IsRefused, due_text, FallsShort, Knows, no_counts, due_after, RecordGives, TakesRecord, LosesRecord, RefusesRecord, HaltsAt, Reached, TakesAll, HaltsAfter}
 use Rattle.sc_repair.proofs.Growth.{first_refused-push}
 use Rattle.sc_repair.proofs.JobLaws.{IsRefusal, refusal-fault, values_at-none}
 
