@@ -28,7 +28,7 @@ use Rattle.sc_repair.proofs.Growth.{first_refused-stays}
 use Rattle.sc_repair.proofs.JobLaws.{push-refused}
 
 -- a preamble was read and given, and then this was taken and put
-joined : (a b c d : Told) (pre t put : List ℕ) → Takes a b pre → Puts b c pre → Moves c d t put → Moves a d (pre ++ t) (pre ++ put)
+pub joined : (a b c d : Told) (pre t put : List ℕ) → Takes a b pre → Puts b c pre → Moves c d t put → Moves a d (pre ++ t) (pre ++ put)
 joined a b c d pre t put x y m = Moves-trans a c d pre t pre put (subst (λ l. Moves a c l pre) (append-nil pre) (Moves-trans a b c pre [] [] pre x.moves y.moves)) m
 
 module _ (file : CodeFile) where

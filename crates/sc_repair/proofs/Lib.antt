@@ -8,3 +8,4 @@ pub mod Growth
 pub mod JobLaws
 pub mod RecordSteps
 pub mod EndSteps
+pub mod PromptSteps

@@ -1,7 +1,8 @@
 -- The steps of repairing: one record, and many.
-use Rattle.std.proofs.Common.{◌≡◌, ℕ, ◌+◌, ◌≤◌, nat_le, List, [], ◌∷◌, ◌++◌, length, Option, Some, None, Result, Ok, Err, refl, sym, ap, ◌∙◌, subst, arith, append-nil, append_assoc, length-append}
+use Rattle.std.proofs.Common.{◌≡◌, ℕ, ◌+◌, ◌≤◌, nat_le, List, [], ◌∷◌, ◌++◌, length, take, Option, Some, None, Result, Ok, Err, refl, sym, ap, ◌∙◌, subst, arith, inl, inr, append-nil, append_assoc, length-append}
 use Rattle.std.specs.Io.KnownBytes.{IsAtEnd}
-use Rattle.std.proofs.lemmas.Bool.{cond-true, le-leb}
+use Rattle.std.proofs.lemmas.Bool.{cases_lt, cond-true, le-leb}
+use Rattle.std.proofs.lemmas.List.{take-append-le, take_at}
 use Rattle.sc_outside.specs.Pending.{FlushFailed}
 use Rattle.sc_outside.specs.Port.{Told, Moves, Takes, Puts}
 use Rattle.sc_outside.specs.Whole.{PutsAll}
@@ -22,7 +23,7 @@ use Rattle.sc_repair.specs.declared.repair.RepairEnd.{RepairEnd}
 use Rattle.sc_repair.specs.declared.repair.RepairEnd.TheVariants.{Dump, TooManyRecords, WrongCode, BadShape, TooManySlots, Unfit, Clash, BadBlock, Write, Memory}
 use Rattle.sc_repair.specs.Repairer.{Repairer}
 use Rattle.sc_repair.specs.Repairing.{Refusal, first_of, values_text, slots_in, still, refusal, first_refused, values_so_far}
-use Rattle.sc_repair.specs.RepairSteps.{IsRefused, due_text, FallsShort, Knows, no_counts, due_after, RecordGives, TakesRecord, LosesRecord, RefusesRecord, HaltsAt, Reached, TakesAll, HaltsAfter}
+use Rattle.sc_repair.specs.RepairSteps.{IsRefused, due_text, FallsShort, Knows, no_counts, due_after, RecordGives, TakesRecord, LosesRecord, RefusesRecord, HaltsAt, Stood, Reached, TakesAll, HaltsAfter}
 use Rattle.sc_repair.proofs.Growth.{first_refused-push}
 use Rattle.sc_repair.proofs.JobLaws.{IsRefusal, refusal-fault, values_at-none}
 
@@ -164,9 +165,55 @@ pub record Passed (file : CodeFile) (old new : Told) (n : ℕ) (kept : Option Re
   pub count : length records ≡ n
   pub reached : Reached file old new records kept counts
 
+-- the moments at which so many records had been taken
+Stood-later : (file : CodeFile) (records : List Record) (i : ℕ) (a b c : Told) (t p : List ℕ) → Stood file records i a b → Moves b c t p → Stood file records i a c
+Stood-later file records i a b c t p x m = record {
+  mid = x.mid;
+  before = x.before;
+  taken = x.taken ++ t;
+  put = x.put ++ p;
+  after = Moves-trans x.mid b c x.taken t x.put p x.after m;
+}
+
+Stood-more : (file : CodeFile) (records more : List Record) (i : ℕ) (a b : Told) → i ≤ length records → Stood file records i a b → Stood file (records ++ more) i a b
+Stood-more file records more i a b le x = record {
+  mid = x.mid;
+  before = subst (λ (l : List Record). Moves a x.mid (records_bytes l) (values_text (values_so_far file l))) (sym (take-append-le i records more le)) x.before;
+  taken = x.taken;
+  put = x.put;
+  after = x.after;
+}
+
+Stood-now : (file : CodeFile) (records : List Record) (a b : Told) → Moves a b (records_bytes records) (values_text (values_so_far file records)) → Stood file records (length records) a b
+Stood-now file records a b m =
+    let all : take (length records) records ≡ records = ap (take (length records)) (sym (append-nil records)) ∙ take_at records [] (length records) refl in
+    record {
+      mid = b;
+      before = subst (λ (l : List Record). Moves a b (records_bytes l) (values_text (values_so_far file l))) (sym all) m;
+      taken = [];
+      put = [];
+      after = Moves-none b;
+    }
+
+Stood-none : (file : CodeFile) (a b : Told) → Moves a b [] (values_text (values_so_far file [])) → (i : ℕ) → i ≤ 0 → Stood file [] i a b
+Stood-none file a b m i le =
+    let none : 0 ≡ i = omega arith in
+    subst (λ (n : ℕ). Stood file [] n a b) none (Stood-now file [] a b m)
+
+Stood-push : (file : CodeFile) (records : List Record) (e : Record) (a b c : Told) (t p : List ℕ) → ((i : ℕ) → i ≤ length records → Stood file records i a b) → Moves b c t p
+    → Moves a c (records_bytes (records ++ e ∷ [])) (values_text (values_so_far file (records ++ e ∷ []))) → (i : ℕ) → i ≤ length (records ++ e ∷ []) → Stood file (records ++ e ∷ []) i a c
+Stood-push file records e a b c t p each m all i le =
+    elim (cases_lt (length records) i) [
+      | inl last ↦ (
+          let same : length (records ++ e ∷ []) ≡ i = omega (arith, length-append records (e ∷ []), le) in
+          subst (λ (n : ℕ). Stood file (records ++ e ∷ []) n a c) same (Stood-now file (records ++ e ∷ []) a c all))
+      | inr earlier ↦ Stood-more file records (e ∷ []) i a c earlier (Stood-later file records i a b c t p (each i earlier) m)
+    ]
+
 pub Passed-none : (file : CodeFile) (a : Told) (kept : Option Repairer) (counts : Counts) → kept ≡ None → counts ≡ no_counts → Passed file a a 0 kept counts
 Passed-none file a kept counts ek ec =
     let no_text : values_text (values_so_far file []) ≡ [] = ap values_text (values_at-none file 0) in
+    let start : Moves a a [] (values_text (values_so_far file [])) = subst (Moves a a []) (sym no_text) (Moves-none a) in
     let knows : Knows file [] None no_counts = record {
       accepted = refl;
       keeps = (refl, no_text);
@@ -179,7 +226,8 @@ Passed-none file a kept counts ek ec =
       reached = record {
         fit = tt;
         knows = subst (λ (c : Counts). Knows file [] kept c) (sym ec) (subst (λ (k : Option Repairer). Knows file [] k no_counts) (sym ek) knows);
-        moves = subst (Moves a a []) (sym no_text) (Moves-none a);
+        moves = start;
+        stood = Stood-none file a a start;
       };
     }
 
@@ -191,14 +239,17 @@ Passed-more file a b c n kept kept' counts counts' x t =
     let e = t.next in
     let bytes : records_bytes es ++ record_bytes e ≡ records_bytes (es ++ e ∷ []) =
     ap (λ l. records_bytes es ++ l) (sym (append-nil (record_bytes e))) ∙ sym (records_bytes-append es (e ∷ [])) in
+    let all : Moves a c (records_bytes (es ++ t.next ∷ [])) (values_text (values_so_far file (es ++ t.next ∷ []))) =
+    subst (λ l. Moves a c l (values_text (values_so_far file (es ++ e ∷ [])))) bytes
+    (subst (Moves a c (records_bytes es ++ record_bytes e)) (sym t.parts) (Moves-trans a b c _ _ _ _ x.reached.moves t.moves)) in
     record {
       records = es ++ e ∷ [];
       count = omega (arith, length-append es (e ∷ []), x.count);
       reached = record {
         fit = All-append es e x.reached.fit t.fits;
         knows = t.knows;
-        moves = subst (λ l. Moves a c l (values_text (values_so_far file (es ++ e ∷ [])))) bytes
-            (subst (Moves a c (records_bytes es ++ record_bytes e)) (sym t.parts) (Moves-trans a b c _ _ _ _ x.reached.moves t.moves));
+        moves = all;
+        stood = Stood-push file es e a b c (record_bytes e) t.more x.reached.stood t.moves all;
       };
     }
 
@@ -210,6 +261,7 @@ takes_all file a b c n kept counts x m end = record {
     knows = x.reached.knows;
     moves = subst (λ l. Moves a c l (values_text (values_so_far file x.records))) (append-nil (records_bytes x.records))
         (subst (Moves a c (records_bytes x.records ++ [])) (append-nil (values_text (values_so_far file x.records))) (Moves-trans a b c _ _ _ _ x.reached.moves m));
+    stood = λ i le. Stood-later file x.records i a b c [] [] (x.reached.stood i le) m;
   };
   end = end;
 }

@@ -9,3 +9,4 @@ pub mod Repairing
 pub mod Steps
 pub mod RepairSteps
 pub mod RepairLaws
+pub mod Prompt
