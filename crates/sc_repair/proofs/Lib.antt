@@ -1,3 +1,7 @@
+pub mod JobLaws
+pub mod RecordSteps
+pub mod EndSteps
+pub mod PromptSteps
 pub mod EquationSteps
 pub mod StandsSteps
 pub mod CallSteps
@@ -5,7 +9,3 @@ pub mod TakeSteps
 pub mod ValueLaws
 pub mod ReadingLaws
 pub mod Growth
-pub mod JobLaws
-pub mod RecordSteps
-pub mod EndSteps
-pub mod PromptSteps
