@@ -32,7 +32,8 @@ module _ {X : Type 0} (p : X → Bool) where
             ∙ sym (ap (option_map (λ i. suc i)) (cond-false (nat_lt n l) (Some n) None (le-ltb n l past)))
       ]
 
-  position-cons : (x : X) (xs : List X) → position p (x ∷ xs) ≡ cond (p x) (Some 0) (option_map (λ i. suc i) (position p xs))
+  -- the first place of a list that is not empty
+  pub position-cons : (x : X) (xs : List X) → position p (x ∷ xs) ≡ cond (p x) (Some 0) (option_map (λ i. suc i) (position p xs))
   position-cons x xs = place_by (p x) (position_or_len p xs) (length xs)
 
   shifted : (here : Bool) (o q : Option ℕ) (n : ℕ) → cond here (Some 0) (option_map (λ i. suc i) (first_there o (option_map (λ i. n + i) q))) ≡ first_there (cond here (Some 0) (option_map (λ i. suc i) o)) (option_map (λ i. suc n + i) q)

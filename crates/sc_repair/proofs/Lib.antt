@@ -9,3 +9,7 @@ pub mod TakeSteps
 pub mod ValueLaws
 pub mod ReadingLaws
 pub mod Growth
+pub mod PutSteps
+pub mod NextSteps
+pub mod AllSteps
+pub mod PassSteps

@@ -87,17 +87,17 @@ NextGives values end n old new before after missed text (Ok More) = PutsTo value
 NextGives values end n old new before after missed text (Ok (Bad t)) = Halts values old new before after text t
 NextGives values end n old new before after missed text (Err e) = LosesTo values old new before text
 
--- all values that are settled are put out
-abbrev pub AreAllPut : Repairer → Type 0
-AreAllPut s = (taken : List (Taken ℕ)) → Stands s taken → s.next ≡ length (put_values s.k s.m s.deadline taken s.passed)
+-- while the input goes on, this is the number of all values that are settled
+abbrev pub IsAllOf : Repairer → ℕ → Type 0
+IsAllOf s n = s.finished ≡ false → (taken : List (Taken ℕ)) → Stands s taken → n ≡ length (put_values s.k s.m s.deadline taken s.passed)
 
 -- and how far it is then
 abbrev pub NextCounts : Repairer → Repairer → Result Next Failed → Type 0
 NextCounts old new (Ok Ended) =
     (new ≡ record old { block = new.block }) × (old.finished ≡ false → old.passed ≤ old.next + old.deadline)
-    × (old.finished ≡ false → AreAllPut old)
+    × IsAllOf old old.next
 NextCounts old new (Ok More) =
-    (new ≡ record old { next = new.next; block = new.block }) × (old.next < new.next) × (new.next ≤ old.passed)
+    (new ≡ record old { next = new.next; block = new.block }) × (old.next < new.next) × (new.next ≤ 4000000)
 NextCounts old new (Ok (Bad t)) = Unit {0}
 NextCounts old new (Err e) = Unit {0}
 
@@ -109,7 +109,7 @@ AllGives values end old new before after missed text (Err e) = LosesTo values ol
 
 abbrev pub AllCounts : Repairer → Repairer → Result (Option ℕ) Failed → Type 0
 AllCounts old new (Ok None) =
-    (new ≡ record old { next = new.next; block = new.block }) × (new.next ≤ old.passed)
-    × (old.finished ≡ false → old.passed ≤ new.next + old.deadline) × (old.finished ≡ false → AreAllPut new)
+    (new ≡ record old { next = new.next; block = new.block })
+    × (old.finished ≡ false → old.passed ≤ new.next + old.deadline) × IsAllOf old new.next
 AllCounts old new (Ok (Some t)) = Unit {0}
 AllCounts old new (Err e) = Unit {0}

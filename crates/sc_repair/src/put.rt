@@ -79,7 +79,6 @@ fn put_next<P: Port>(
     match repairer.next_out() {
         None => Ok(Next::Ended),
         Some(Put::Missed(_)) => {
-            repairer.known();
             *missed += 1;
             Ok(Next::More)
         }

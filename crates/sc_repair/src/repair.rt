@@ -126,8 +126,9 @@ fn pass_to<P: Port>(
 {
     for _slot in repairer.passed()..number {
         repairer.pass_lost();
-        if let Some(bad) = put_all(repairer, port, pending, missed)? {
-            return Ok(Some(bad));
+        match put_all(repairer, port, pending, missed)? {
+            None => {}
+            Some(bad) => return Ok(Some(bad)),
         }
     }
     Ok(None)
@@ -154,11 +155,13 @@ fn take_slot<P: Port>(
         → SlotGives file.now repairer.old repairer.new taken (taken_slot file.now.code (slot_in slot.now)) (P.told port.old) (P.told port.new) pending.old pending.new missed.new text result }
     ensures counts { SlotCounts file.now slot.now.number repairer.old repairer.new missed.new result }
 {
-    if let Some(bad) = pass_to(repairer, slot.number, port, pending, missed)? {
-        return Ok(Err(RepairEnd::BadBlock(bad)));
+    match pass_to(repairer, slot.number, port, pending, missed)? {
+        None => {}
+        Some(bad) => return Ok(Err(RepairEnd::BadBlock(bad))),
     }
-    if let Err(TakeFault::Clash(number)) = repairer.take(&file.code, slot) {
-        return Ok(Err(RepairEnd::Clash(number)));
+    match repairer.take(&file.code, slot) {
+        Ok(()) => {}
+        Err(TakeFault::Clash(number)) => return Ok(Err(RepairEnd::Clash(number))),
     }
     match put_all(repairer, port, pending, missed)? {
         None => Ok(Ok(())),
@@ -188,10 +191,10 @@ fn place_slot<P: Port>(
         counts.repeats += 1;
         return Ok(Ok(()));
     }
-    if let Err(unfit) = repairer.fits(slot) {
-        return Ok(Err(RepairEnd::Unfit(unfit)));
+    match repairer.fits(slot) {
+        Ok(()) => take_slot(file, repairer, slot, port, pending, &mut counts.missed),
+        Err(unfit) => Ok(Err(RepairEnd::Unfit(unfit))),
     }
-    take_slot(file, repairer, slot, port, pending, &mut counts.missed)
 }
 
 /// Takes a slot. The first one starts the repairer, whose symbols have as many bytes as its own.

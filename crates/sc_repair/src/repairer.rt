@@ -167,12 +167,6 @@ impl Repairer {
         self.passed
     }
 
-    /// What holds of the numbers of every repairer.
-    pub fn known(&self)
-        ensures { IsSound self.now }
-    {
-    }
-
     /// Whether a slot fits the slots taken before it, which says nothing of its block and its parity. `OtherWidth` comes
     /// first, exactly where its symbols have another number of bytes; `OtherEnd` exactly where its end byte doesn't fit the
     /// end so far.
@@ -346,6 +340,7 @@ impl Repairer {
         ensures left { self.old.finished ≡ true → (taken : List (Taken ℕ)) → Stands self.old taken → IsLeft self.old taken self.new.block result }
         ensures stands { (taken : List (Taken ℕ)) → Stands self.old taken → Stands self.new taken }
         ensures counts { OutCounts self.old self.new result }
+        ensures sound { IsSound self.new }
     {
         if self.finished {
             return self.next_left();
@@ -368,6 +363,7 @@ impl Repairer {
         ensures next { (taken : List (Taken ℕ)) → Stands self.old taken → IsNext self.old taken self.new.block result }
         ensures stands { (taken : List (Taken ℕ)) → Stands self.old taken → Stands self.new taken }
         ensures counts { OutCounts self.old self.new result }
+        ensures sound { IsSound self.new }
     {
         let slot = self.next;
         if slot == self.passed {
@@ -392,6 +388,7 @@ impl Repairer {
         ensures left { (taken : List (Taken ℕ)) → Stands self.old taken → IsLeft self.old taken self.new.block result }
         ensures stands { (taken : List (Taken ℕ)) → Stands self.old taken → Stands self.new taken }
         ensures counts { OutCounts self.old self.new result }
+        ensures sound { IsSound self.new }
     {
         let end = if self.claimed { self.end } else { self.past };
         let m = usize::from(self.m);
