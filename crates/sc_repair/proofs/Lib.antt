@@ -1,3 +1,7 @@
+pub mod JobLaws
+pub mod RecordSteps
+pub mod EndSteps
+pub mod PromptSteps
 pub mod EquationSteps
 pub mod StandsSteps
 pub mod CallSteps

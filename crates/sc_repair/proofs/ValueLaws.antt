@@ -453,7 +453,7 @@ module _ (k m deadline : ℕ) where
       }
 
   -- where all that is taken is below w, there is no clash anywhere
-  no_clash_at_end : (taken : List (Taken ℕ)) (w n : ℕ) → AllBelow taken w → HasNoClash 0 gf256_product k m taken w → HasNoClash 0 gf256_product k m taken n
+  pub no_clash_at_end : (taken : List (Taken ℕ)) (w n : ℕ) → AllBelow taken w → HasNoClash 0 gf256_product k m taken w → HasNoClash 0 gf256_product k m taken n
   no_clash_at_end taken w n below none =
       elim (cases_lt n w) [
         | inl earlier ↦ HasNoClash-earlier 0 gf256_product k m taken n w (omega arith) none

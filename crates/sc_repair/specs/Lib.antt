@@ -8,3 +8,5 @@ pub mod Readings
 pub mod Repairing
 pub mod Steps
 pub mod RepairSteps
+pub mod RepairLaws
+pub mod Prompt

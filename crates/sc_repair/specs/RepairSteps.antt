@@ -283,11 +283,20 @@ TakeCounts file index kept' counts' (Err fault) = Unit {0}
 
 -- ---- many records
 
--- these records were taken, none of which is refused, and what is due then was written
+-- at some moment between these two the first i of these records had been taken, and what is due then was written
+pub record Stood (file : CodeFile) (records : List Record) (i : ℕ) (old new : Told) : Type 0 where
+  pub mid : Told
+  pub before : Moves old mid (records_bytes (take i records)) (values_text (values_so_far file (take i records)))
+  pub taken : List ℕ
+  pub put : List ℕ
+  pub after : Moves mid new taken put
+
+-- these records were taken, none of which is refused, and what is due then was written, at each of them before the next
 pub record Reached (file : CodeFile) (old new : Told) (records : List Record) (kept : Option Repairer) (counts : Counts) : Type 0 where
   pub fit : AllByRecursion IsRecord records
   pub knows : Knows file records kept counts
   pub moves : Moves old new (records_bytes records) (values_text (values_so_far file records))
+  pub stood : (i : ℕ) → i ≤ length records → Stood file records i old new
 
 -- all were taken
 pub record TakesAll (file : CodeFile) (old new : Told) (kept : Option Repairer) (counts : Counts) : Type 0 where

@@ -6,6 +6,7 @@ ghost use Rattle.sc_code.specs.declared.code.CodeFile.{CodeFile as CodeFileOf};
 ghost use Rattle.sc_slots.specs.Answers.{slot_in};
 ghost use Rattle.sc_slots.specs.Slot.{IsSlot, Slot as SlotOf};
 ghost use Rattle.sc_slots.specs.Taken.{Taken, taken_slot};
+ghost use Rattle.sc_repair.specs.Prompt.{IsPrompt};
 ghost use Rattle.sc_repair.specs.Repairer.{FitsEnd};
 ghost use Rattle.sc_repair.specs.Repairing.{repairing, width_in};
 ghost use Rattle.sc_repair.specs.RepairSteps.{AreFew, ComesCounts, ComesIn, IsGoing, IsReady, IsSet, Keeps, Knows, LastGives, PassCounts, PassGives, PlaceCounts, PlaceGives, RecordCounts, RecordGives, RecordsGive, RestGives, Rests, SlotCounts, SlotGives, TakeCounts, TakeGives, fault_of, no_counts};
@@ -404,7 +405,8 @@ fn repair_capture<P: Port>(
     requires empty { state.old.pending ≡ [] }
     requires none { state.old.kept ≡ None }
     requires zero { state.old.counts ≡ no_counts }
-    ensures { Ends (repairing file.now) (P.told port.old) (P.told port.new) result }
+    ensures ends { Ends (repairing file.now) (P.told port.old) (P.told port.new) result }
+    ensures prompt { IsPrompt (repairing file.now) (P.told port.old) (P.told port.new) }
 {
     let preamble = match read_preamble(alloc, port) {
         Ok(preamble) => preamble,
@@ -450,6 +452,7 @@ pub fn repair_all<P: Port>(
     port: &mut P,
 ) -> Result<Repaired, RepairEnd>
     ensures ends { Ends (repairing file.now) (P.told port.old) (P.told port.new) result }
+    ensures prompt { IsPrompt (repairing file.now) (P.told port.old) (P.told port.new) }
 {
     let Ok(mut state) = Repair::start(alloc) else {
         return Err(RepairEnd::Memory);

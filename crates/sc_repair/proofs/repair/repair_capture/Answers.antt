@@ -1,24 +1,40 @@
-use Rattle.std.proofs.Common.{rules, ◌≡◌, ◌+◌, ◌*◌, ◌<◌, ◌≤◌, ◌∷◌, ◌++◌, [], ℕ, List, false, length, None, IfOk, ◌-◌, ◌/◌, ◌%◌, Bool, true, nat_eq, nat_lt, slice_index_or, slice_set, bit_and, bit_or, Fits, w8, w32, w64, Bor, MutBor}
-use Rattle.sc_outside.specs.Ends.{Ends}
-use Rattle.sc_rtpdump.specs.Record.{Record}
-use Rattle.sc_code.specs.declared.code.CodeFile.{CodeFile as CodeFileOf}
-use Rattle.sc_slots.specs.Answers.{slot_in}
-use Rattle.sc_slots.specs.Slot.{IsSlot}
-use Rattle.sc_slots.specs.Slot.{Slot as SlotOf}
-use Rattle.sc_slots.specs.Taken.{Taken, taken_slot}
-use Rattle.sc_repair.specs.Repairer.{FitsEnd}
-use Rattle.sc_repair.specs.Repairing.{repairing, width_in}
-use Rattle.sc_repair.specs.RepairSteps.{AreFew, ComesCounts, ComesIn, IsGoing, IsReady, IsSet, Keeps, Knows, LastGives, PassCounts, PassGives, PlaceCounts, PlaceGives, RecordCounts, RecordGives, RecordsGive, RestGives, Rests, SlotCounts, SlotGives, TakeCounts, TakeGives, fault_of, no_counts}
+use Rattle.std.proofs.Common.{subst}
+use Rattle.sc_outside.specs.Port.{Puts}
+use Rattle.sc_outside.specs.Whole.{WriteFailed}
+use Rattle.sc_repair.proofs.EndSteps.{rest_end, preamble_end, preamble_lost}
+use Rattle.sc_repair.proofs.PromptSteps.{rest_prompt, preamble_prompt, preamble_lost_prompt}
 use Rattle.sc_repair.proofs.repair.repair_capture.Goals as goal
 
--- src/repair.rt:408:23
-pub returns-in-Err : goal.returns-in-Err
-returns-in-Err g c = ?
+pub returns-in-Err-clause-ends : goal.returns-in-Err-clause-ends
+returns-in-Err-clause-ends g c = rw c.of.ensures (preamble_end c.args.file.now _ _ c.in-Err.fault c.in-Err.ensures)
 
--- src/repair.rt:411:9
-pub returns-in_default : goal.returns-in_default
-returns-in_default g c = ?
+pub returns-in-Err-clause-prompt : goal.returns-in-Err-clause-prompt
+returns-in-Err-clause-prompt g c = preamble_prompt c.args.file.now _ _ c.in-Err.fault c.in-Err.ensures
 
--- src/repair.rt:395:1
-pub returns : goal.returns
-returns g c = ?
+pub returns-in_default-clause-ends : goal.returns-in_default-clause-ends
+returns-in_default-clause-ends g c =
+    let told = g.P.Port.told in
+    let read = c.in-Ok.ensures in
+    let lost = subst (WriteFailed (told c.read_preamble.new.port) (told c.write_whole.new.port)) c.bytes.ensures.bytes c.in_default.ensures.err in
+    preamble_lost c.args.file.now _ _ _ c.in-Ok.preamble read.0 read.1 lost
+
+pub returns-in_default-clause-prompt : goal.returns-in_default-clause-prompt
+returns-in_default-clause-prompt g c =
+    let told = g.P.Port.told in
+    let read = c.in-Ok.ensures in
+    let lost = subst (WriteFailed (told c.read_preamble.new.port) (told c.write_whole.new.port)) c.bytes.ensures.bytes c.in_default.ensures.err in
+    preamble_lost_prompt c.args.file.now _ _ _ c.in-Ok.preamble read.0 read.1 lost
+
+pub returns-clause-ends : goal.returns-clause-ends
+returns-clause-ends g c =
+    let told = g.P.Port.told in
+    let read = c.in-Ok.ensures in
+    let puts = subst (Puts (told c.read_preamble.new.port) (told c.write_whole.new.port)) c.bytes.ensures.bytes c.in-Ok-write_whole.ensures.ok.puts in
+    rest_end c.args.file.now _ _ _ c.in-Ok.preamble read.0 read.1 puts _ c.repair_rest.result c.repair_rest.ensures
+
+pub returns-clause-prompt : goal.returns-clause-prompt
+returns-clause-prompt g c =
+    let told = g.P.Port.told in
+    let read = c.in-Ok.ensures in
+    let puts = subst (Puts (told c.read_preamble.new.port) (told c.write_whole.new.port)) c.bytes.ensures.bytes c.in-Ok-write_whole.ensures.ok.puts in
+    rest_prompt c.args.file.now _ _ _ c.in-Ok.preamble read.0 read.1 puts _ c.repair_rest.result c.repair_rest.ensures

@@ -1,28 +1,25 @@
-use Rattle.std.proofs.Common.{rules, ◌≡◌, ◌+◌, ◌*◌, ◌<◌, ◌≤◌, ◌∷◌, ◌++◌, [], ℕ, List, false, length, None, IfOk, ◌-◌, ◌/◌, ◌%◌, Bool, true, nat_eq, nat_lt, slice_index_or, slice_set, bit_and, bit_or, Fits, w8, w32, w64, Bor, MutBor}
-use Rattle.sc_outside.specs.Ends.{Ends}
-use Rattle.sc_rtpdump.specs.Record.{Record}
-use Rattle.sc_code.specs.declared.code.CodeFile.{CodeFile as CodeFileOf}
-use Rattle.sc_slots.specs.Answers.{slot_in}
-use Rattle.sc_slots.specs.Slot.{IsSlot}
-use Rattle.sc_slots.specs.Slot.{Slot as SlotOf}
-use Rattle.sc_slots.specs.Taken.{Taken, taken_slot}
-use Rattle.sc_repair.specs.Repairer.{FitsEnd}
-use Rattle.sc_repair.specs.Repairing.{repairing, width_in}
-use Rattle.sc_repair.specs.RepairSteps.{AreFew, ComesCounts, ComesIn, IsGoing, IsReady, IsSet, Keeps, Knows, LastGives, PassCounts, PassGives, PlaceCounts, PlaceGives, RecordCounts, RecordGives, RecordsGive, RestGives, Rests, SlotCounts, SlotGives, TakeCounts, TakeGives, fault_of, no_counts}
+use Rattle.sc_repair.proofs.RecordSteps.{loses_record, flush_lost, takes_record, record_halts}
 use Rattle.sc_repair.proofs.repair.take_one.Goals as goal
 
--- src/repair.rt:321:9
 pub returns-in_default-clause-gives : goal.returns-in_default-clause-gives
-returns-in_default-clause-gives g c = ?
+returns-in_default-clause-gives g c = λ records count k.
+    let read = rw (c.in-Ok-true.is, c.in-Ok-true.field-0-test) at c.next_record.ensures in
+    let lost = rw c.requires.empty at c.in_default.ensures.gives records count k in
+    loses_record c.args.file.now records c.next_record.new.rec _ _ read.0 read.1 _ lost
 
--- src/repair.rt:324:9
 pub returns-in_default-flush-clause-gives : goal.returns-in_default-flush-clause-gives
-returns-in_default-flush-clause-gives g c = ?
+returns-in_default-flush-clause-gives g c = λ records count k.
+    let read = rw (c.in-Ok-true.is, c.in-Ok-true.field-0-test) at c.next_record.ensures in
+    flush_lost c.args.file.now records c.next_record.new.rec _ _ read.0 read.1 _ _ _ _ _ _ _ c.in-Ok.end c.requires.empty k.accepted (c.in-Ok.ensures.gives records count k) c.in_default-flush.ensures
 
--- src/repair.rt:290:1
 pub returns-in-Ok-end-clause-gives : goal.returns-in-Ok-end-clause-gives
-returns-in-Ok-end-clause-gives g c = ?
+returns-in-Ok-end-clause-gives g c = λ records count k.
+    let read = rw (c.in-Ok-true.is, c.in-Ok-true.field-0-test) at c.next_record.ensures in
+    let gives = rw (c.in-Ok-end.is, c.requires.empty) at c.in-Ok.ensures.gives records count k in
+    takes_record c.args.file.now records c.next_record.new.rec _ _ read.0 read.1 _ _ _ _ _ gives c.in-Ok-flush.ensures.1
 
--- src/repair.rt:290:1
 pub returns-in-Err-end-clause-gives : goal.returns-in-Err-end-clause-gives
-returns-in-Err-end-clause-gives g c = ?
+returns-in-Err-end-clause-gives g c = λ records count k.
+    let read = rw (c.in-Ok-true.is, c.in-Ok-true.field-0-test) at c.next_record.ensures in
+    let gives = rw c.in-Err-end.is at c.in-Ok.ensures.gives records count k in
+    record_halts c.args.file.now records c.next_record.new.rec _ _ read.0 read.1 _ _ _ _ c.take_record.new.kept c.take_record.new.counts c.in-Err-end.fault c.requires.empty gives c.in-Ok-flush.ensures.1
