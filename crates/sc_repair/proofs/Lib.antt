@@ -15,3 +15,6 @@ pub mod AllSteps
 pub mod PassSteps
 pub mod SlotSteps
 pub mod PlaceSteps
+pub mod ComeSteps
+pub mod ReadSteps
+pub mod LastSteps

@@ -84,11 +84,11 @@ module _ (file : CodeFile) (slots : List Slot) (s : Repairer) (one : Slot) (st :
 
 -- ---- what is refused is still after what was put out
 
-first_width : (slots : List Slot) (one : Slot) → (slots ≡ []) ⊎ (width_in (slots ++ one ∷ []) ≡ width_in slots)
+pub first_width : (slots : List Slot) (one : Slot) → (slots ≡ []) ⊎ (width_in (slots ++ one ∷ []) ≡ width_in slots)
 first_width [] one = inl refl
 first_width (s ∷ slots) one = inr refl
 
-none_put : (k m deadline : ℕ) (taken : List (Taken ℕ)) → put_values k m deadline taken 0 ≡ []
+pub none_put : (k m deadline : ℕ) (taken : List (Taken ℕ)) → put_values k m deadline taken 0 ≡ []
 none_put k m deadline taken = nil_from_length (put_values k m deadline taken 0) (omega (arith, put_values-le k m deadline taken 0))
 
 -- what is put out of slots, told in the numbers of the repairer

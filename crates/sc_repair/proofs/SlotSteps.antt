@@ -36,7 +36,7 @@ abbrev stop_of : Option Refusal → Bool → Option Refusal → Refusal → Opti
 stop_of before fits with_it clash = first_of before (if fits then with_it else Some clash)
 
 -- a bad block among values, and what is due up to it
-bad_due : (values : List (Option (List (List ℕ)))) (t : ℕ) → position is_bad_value values ≡ Some t → bad_among values ≡ Some (record { fault = BadBlock t; values = take t values })
+pub bad_due : (values : List (Option (List (List ℕ)))) (t : ℕ) → position is_bad_value values ≡ Some t → bad_among values ≡ Some (record { fault = BadBlock t; values = take t values })
 bad_due values t e = ap (option_map (λ i. let r : Refusal = record { fault = BadBlock i; values = take i values } in r)) e
 
 -- a bad block stops the slot

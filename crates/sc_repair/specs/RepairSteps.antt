@@ -20,7 +20,7 @@ use Rattle.sc_repair.specs.declared.repair.RepairEnd.{RepairEnd}
 use Rattle.sc_repair.specs.declared.repair.RepairEnd.TheVariants.{Dump, TooManyRecords, WrongCode, BadShape, TooManySlots, Unfit, Clash, BadBlock, Write, Memory}
 use Rattle.sc_repair.specs.declared.repair.Repaired.{Repaired}
 use Rattle.sc_repair.specs.Repairer.{Repairer}
-use Rattle.sc_repair.specs.Repairing.{Refusal, values_text, is_stranger, width_in, read_as, slots_in, taken_of, put_of, values_of, values_so_far, stop_by, slot_refusal, reading_refusal, refusal, first_refused, text_by, last_values, numbers, bad_among}
+use Rattle.sc_repair.specs.Repairing.{Refusal, values_text, is_stranger, width_in, read_as, slots_in, taken_of, put_of, values_of, values_so_far, stop_by, slot_refusal, reading_refusal, refusal, first_refused, text_by, last_values, missed_of, numbers, bad_among}
 use Rattle.sc_repair.specs.Stands.{Stands}
 use Rattle.sc_repair.specs.Steps.{Done, Halts, LosesTo}
 use Rattle.sc_repair.specs.Values.{put_values}
@@ -103,7 +103,7 @@ SlotGives file s s' taken slot old new before after missed text (Err e) =
 -- how far it is then
 abbrev pub SlotCounts : CodeFile → ℕ → Repairer → Repairer → ℕ → Result (Result (Unit {0}) RepairEnd) Failed → Type 0
 SlotCounts file number old new missed (Ok (Ok u)) = IsSet file new missed × (new.passed ≡ number + 1) × (new.m ≡ old.m)
-SlotCounts file number old new missed (Ok (Err fault)) = (fault ≡ Write → ⊥) × (fault ≡ Memory → ⊥)
+SlotCounts file number old new missed (Ok (Err fault)) = fault ≡ Memory → ⊥
 SlotCounts file number old new missed (Err e) = Unit {0}
 
 -- ---- slots
@@ -135,7 +135,7 @@ abbrev pub PlaceCounts : CodeFile → Repairer → Repairer → Slot → Counts 
 PlaceCounts file s s' slot counts counts' (Ok (Ok u)) =
     IsSet file s' counts'.missed × (s'.m ≡ s.m) × (counts'.strangers ≡ counts.strangers)
     × (((slot.number < s.passed) × (counts'.repeats ≡ counts.repeats + 1)) ⊎ ((s.passed ≤ slot.number) × (counts'.repeats ≡ counts.repeats)))
-PlaceCounts file s s' slot counts counts' (Ok (Err fault)) = (fault ≡ Write → ⊥) × (fault ≡ Memory → ⊥)
+PlaceCounts file s s' slot counts counts' (Ok (Err fault)) = fault ≡ Memory → ⊥
 PlaceCounts file s s' slot counts counts' (Err e) = Unit {0}
 
 -- ---- what is kept from one record to the next
@@ -168,10 +168,10 @@ pub record Knows (file : CodeFile) (records : List Record) (kept : Option Repair
 
 -- ---- a slot, where a repairer may not be there yet
 
--- it stands for what came before, and its symbols have as many bytes as those of a slot that comes
+-- it goes on after what came before, and its symbols have as many bytes as those of a slot that comes
 abbrev pub Resumes : CodeFile → Option Repairer → ℕ → ℕ → Repairer → Type 0
 Resumes file kept missed m s =
-    (slots : List Slot) (text : List ℕ) (one : Slot) → one.m ≡ m → Keeps file slots kept missed text → Rests file slots s missed text × ((slots ≡ [] → one.m ≡ s.m) → width_in (slots ++ one ∷ []) ≡ s.m)
+    (slots : List Slot) (text : List ℕ) (one : Slot) → one.m ≡ m → Keeps file slots kept missed text → Rests file slots s missed text × (width_in (slots ++ one ∷ []) ≡ s.m)
 
 -- what a slot answers; memory may run out where it is the first
 abbrev pub ComesIn : CodeFile → List Slot → Slot → Option Repairer → Told → Told → List ℕ → List ℕ → ℕ → List ℕ → Result (Result (Unit {0}) RepairEnd) Failed → Type 0
@@ -194,7 +194,7 @@ abbrev pub ComesCounts : CodeFile → Slot → Option Repairer → Option Repair
 ComesCounts file slot kept kept' counts counts' (Ok (Ok u)) =
     IsGoing file kept' counts' × (counts'.strangers ≡ counts.strangers) × (counts'.repeats ≤ counts.repeats + 1)
     × ((slots : List Slot) (text : List ℕ) → Keeps file slots kept counts.missed text → CountsSlot file slot slots counts counts')
-ComesCounts file slot kept kept' counts counts' (Ok (Err fault)) = (fault ≡ Write → ⊥) × (fault ≡ TooManyRecords → ⊥)
+ComesCounts file slot kept kept' counts counts' (Ok (Err fault)) = Unit {0}
 ComesCounts file slot kept kept' counts counts' (Err e) = Unit {0}
 
 -- ---- records
@@ -216,7 +216,7 @@ RecordGives file records e old new before after kept' counts' (Err u) =
 
 abbrev pub RecordCounts : CodeFile → ℕ → Option Repairer → Counts → Result (Result (Unit {0}) RepairEnd) Failed → Type 0
 RecordCounts file index kept' counts' (Ok (Ok u)) = IsGoing file kept' counts' × AreFew (index + 1) counts'
-RecordCounts file index kept' counts' (Ok (Err fault)) = (fault ≡ Write → ⊥) × (fault ≡ TooManyRecords → ⊥)
+RecordCounts file index kept' counts' (Ok (Err fault)) = Unit {0}
 RecordCounts file index kept' counts' (Err u) = Unit {0}
 
 -- ---- reading and repairing
@@ -319,6 +319,46 @@ RecordsGive file old new kept counts (Ok u) = TakesAll file old new kept counts
 RecordsGive file old new kept counts (Err fault) = HaltsAfter file old new fault
 
 -- ---- the last slots
+
+-- no more was missed than was put out
+abbrev pub IsFewOf : Option Repairer → ℕ → Type 0
+IsFewOf None missed = Unit {0}
+IsFewOf (Some s) missed = missed ≤ s.next
+
+-- the last of these slots were put out behind a text: none is bad, and this is the known end
+pub record GivesLeft (file : CodeFile) (slots : List Slot) (old new : Told) (text : List ℕ) (missed end : ℕ) : Type 0 where
+  pub more : List ℕ
+  pub moves : Moves old new [] more
+  pub left : new.left ≡ old.left
+  pub good : bad_among (last_values file slots) ≡ None
+  pub parts : values_text (last_values file slots) ≡ text ++ more
+  pub end_is : end ≡ known_end (taken_of file slots)
+  pub counted : missed ≡ missed_of file slots
+
+-- or one is bad
+pub record RefusesLeft (file : CodeFile) (slots : List Slot) (old new : Told) (text : List ℕ) (fault : RepairEnd) : Type 0 where
+  pub more : List ℕ
+  pub moves : Moves old new [] more
+  pub left : new.left ≡ old.left
+  pub refused : Refusal
+  pub is_why : bad_among (last_values file slots) ≡ Some refused
+  pub is_fault : refused.fault ≡ fault
+  pub parts : values_text refused.values ≡ text ++ more
+
+-- or a write failed within what is due then
+pub record LosesLeft (file : CodeFile) (slots : List Slot) (old new : Told) (text : List ℕ) : Type 0 where
+  pub put : List ℕ
+  pub moves : Moves old new [] put
+  pub left : new.left ≡ old.left
+  pub short : IsProperPrefix (text ++ put) (due_text (bad_among (last_values file slots)) (last_values file slots))
+  pub rose : Rose old.write_faults new.write_faults
+
+-- what putting out the last of these slots answers
+abbrev pub LeftGives : CodeFile → List Slot → Told → Told → List ℕ → ℕ → Result ℕ RepairEnd → Type 0
+LeftGives file slots old new text missed (Ok end) = GivesLeft file slots old new text missed end
+LeftGives file slots old new text missed (Err Write) = LosesLeft file slots old new text
+LeftGives file slots old new text missed (Err (BadBlock t)) = RefusesLeft file slots old new text (BadBlock t)
+LeftGives file slots old new text missed (Err fault) = ⊥
 
 -- the last slots were put out, and none is bad
 pub record GivesLast (file : CodeFile) (records : List Record) (old new : Told) (answer : Repaired) : Type 0 where

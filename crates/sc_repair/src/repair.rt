@@ -1,15 +1,16 @@
 //! Repair of a capture of protected packets.
-ghost use Rattle.std.specs.Prelude.{◌≡◌, ◌+◌, ◌*◌, ◌<◌, ◌≤◌, ◌∷◌, ◌++◌, [], ℕ, List, false, length, None, IfOk};
+ghost use Rattle.std.specs.Prelude.{◌≡◌, ◌+◌, ◌*◌, ◌<◌, ◌≤◌, ◌∷◌, ◌++◌, [], ℕ, List, false, length, None, IfOk, IsErr};
 ghost use Rattle.sc_outside.specs.Ends.{Ends};
 ghost use Rattle.sc_rtpdump.specs.Record.{Record};
 ghost use Rattle.sc_code.specs.declared.code.CodeFile.{CodeFile as CodeFileOf};
-ghost use Rattle.sc_slots.specs.Answers.{slot_in};
-ghost use Rattle.sc_slots.specs.Slot.{IsSlot, Slot as SlotOf};
+ghost use Rattle.sc_rtp.specs.Reading.{AreBytes};
+ghost use Rattle.sc_slots.specs.Answers.{reading, slot_in};
+ghost use Rattle.sc_slots.specs.Slot.{IsSlot, Slot as SlotOf, SlotIsWellShaped};
 ghost use Rattle.sc_slots.specs.Taken.{Taken, taken_slot};
 ghost use Rattle.sc_repair.specs.Prompt.{IsPrompt};
 ghost use Rattle.sc_repair.specs.Repairer.{FitsEnd};
-ghost use Rattle.sc_repair.specs.Repairing.{repairing, width_in};
-ghost use Rattle.sc_repair.specs.RepairSteps.{AreFew, ComesCounts, ComesIn, IsGoing, IsReady, IsSet, Keeps, Knows, LastGives, PassCounts, PassGives, PlaceCounts, PlaceGives, RecordCounts, RecordGives, RecordsGive, RestGives, Rests, SlotCounts, SlotGives, TakeCounts, TakeGives, fault_of, no_counts};
+ghost use Rattle.sc_repair.specs.Repairing.{read_as, repairing, width_in};
+ghost use Rattle.sc_repair.specs.RepairSteps.{AreFew, ComesCounts, ComesIn, IsGoing, IsFewOf, IsReady, IsSet, Keeps, Knows, LastGives, LeftGives, PassCounts, PassGives, PlaceCounts, PlaceGives, RecordCounts, RecordGives, RecordsGive, RestGives, Rests, Resumes, SlotCounts, SlotGives, TakeCounts, TakeGives, fault_of, no_counts};
 
 use super::put::put_all;
 use super::repairer::{MAX_SLOTS, Repairer, Unfit};
@@ -106,6 +107,20 @@ struct Counts {
     repeats: u32,
 }
 
+impl Counts {
+    /// With the known end.
+    fn with_end(self, end: u32) -> Repaired
+        ensures { result ≡ record { end = end; missed = self.missed; strangers = self.strangers; repeats = self.repeats } }
+    {
+        Repaired {
+            end,
+            missed: self.missed,
+            strangers: self.strangers,
+            repeats: self.repeats,
+        }
+    }
+}
+
 /// Passes the lost slots before this number, and puts out what can be then. It answers the slot of the first block that is
 /// neither zero nor a frame.
 fn pass_to<P: Port>(
@@ -197,6 +212,27 @@ fn place_slot<P: Port>(
     }
 }
 
+/// The repairer that is kept, or a new one, whose symbols have `m` bytes.
+fn resume(
+    alloc: Global,
+    file: &CodeFile,
+    m: u16,
+    kept: Option<Repairer>,
+    counts: &Counts,
+) -> Result<Repairer, NoMemory>
+    requires going { IsGoing file.now kept counts.now }
+    requires some { 1 ≤ m }
+    requires small { file.now.code.k * m ≤ 65503 }
+    ensures set { IfOk result (λ s. IsSet file.now s counts.now.missed) }
+    ensures resumes { IfOk result (λ s. Resumes file.now kept counts.now.missed m s) }
+    ensures none { IsErr result → kept ≡ None }
+{
+    match kept {
+        Some(repairer) => Ok(repairer),
+        None => Repairer::start(alloc, &file.code, file.channel.t(), m),
+    }
+}
+
 /// Takes a slot. The first one starts the repairer, whose symbols have as many bytes as its own.
 fn come_in<P: Port>(
     alloc: Global,
@@ -217,16 +253,26 @@ fn come_in<P: Port>(
     if slot.number >= MAX_SLOTS {
         return Ok(Err(RepairEnd::TooManySlots(slot.number)));
     }
-    let mut repairer = match kept.take() {
-        Some(repairer) => repairer,
-        None => match Repairer::start(alloc, &file.code, file.channel.t(), slot.m) {
-            Ok(repairer) => repairer,
-            Err(_) => return Ok(Err(RepairEnd::Memory)),
-        },
+    let Ok(mut repairer) = resume(alloc, file, slot.m, kept.take(), counts) else {
+        return Ok(Err(RepairEnd::Memory));
     };
     let end = place_slot(file, &mut repairer, slot, port, pending, counts)?;
     *kept = Some(repairer);
     Ok(end)
+}
+
+/// Bytes are below 256. It does nothing.
+fn are_bytes(bytes: &[u8])
+    ensures { AreBytes bytes.now }
+{}
+
+/// Reads a record.
+fn read<'a>(file: &CodeFile, rec: &'a DumpRecord) -> SlotReading<'a>
+    ensures reads { read_as file.now rec.now ≡ reading result }
+    ensures slot { SlotIsWellShaped file.now.code.k file.now.code.r file.now.channel.t rec.now (reading result) }
+{
+    are_bytes(rec.body());
+    read_slot(rec, file.code.k(), file.code.r(), file.channel.t())
 }
 
 /// Takes a record: what it is read as, and what follows from that.
@@ -247,7 +293,7 @@ fn take_record<P: Port>(
         → RecordGives file.now records rec.now (P.told port.old) (P.told port.new) pending.old pending.new kept.new counts.new result }
     ensures counts { RecordCounts file.now index kept.new counts.new result }
 {
-    match read_slot(rec, file.code.k(), file.code.r(), file.channel.t()) {
+    match read(file, rec) {
         SlotReading::Stranger => {
             counts.strangers += 1;
             Ok(Ok(()))
@@ -359,40 +405,50 @@ fn take_records<P: Port>(
     }
 }
 
+/// Puts out the last slots of a repairer, and answers the known end.
+fn put_left<P: Port>(
+    repairer: &mut Repairer,
+    port: &mut P,
+    pending: &mut Pending,
+    missed: &mut u32,
+) -> Result<u32, RepairEnd>
+    requires empty { pending.old ≡ [] }
+    requires few { missed.old ≤ repairer.old.next }
+    ensures { (file : CodeFileOf) (slots : List SlotOf) (text : List ℕ) → IsSet file repairer.old missed.old → Rests file slots repairer.old missed.old text → width_in slots ≡ repairer.old.m
+        → LeftGives file slots (P.told port.old) (P.told port.new) text missed.new result }
+{
+    let end = repairer.finish();
+    let Ok(all) = put_all(repairer, port, pending, missed) else {
+        return Err(RepairEnd::Write);
+    };
+    let Ok(()) = pending.flush(port) else {
+        return Err(RepairEnd::Write);
+    };
+    match all {
+        None => Ok(end),
+        Some(slot) => Err(RepairEnd::BadBlock(slot)),
+    }
+}
+
 /// Puts out the last slots, once all records were taken.
 fn put_last<P: Port>(port: &mut P, state: &mut Repair) -> Result<Repaired, RepairEnd>
     requires empty { state.old.pending ≡ [] }
+    requires few { IsFewOf state.old.kept state.old.counts.missed }
     ensures { (file : CodeFileOf) (records : List Record) → IsGoing file state.old.kept state.old.counts → Knows file records state.old.kept state.old.counts
         → LastGives file records (P.told port.old) (P.told port.new) result }
 {
-    let end = match &mut state.kept {
-        None => 0,
+    match &mut state.kept {
+        None => Ok(state.counts.with_end(0)),
         Some(repairer) => {
-            let end = repairer.finish();
-            let all = put_all(
+            let end = put_left(
                 repairer,
                 port,
                 &mut state.pending,
                 &mut state.counts.missed,
-            );
-            let Ok(bad) = all else {
-                return Err(RepairEnd::Write);
-            };
-            let Ok(()) = state.pending.flush(port) else {
-                return Err(RepairEnd::Write);
-            };
-            if let Some(slot) = bad {
-                return Err(RepairEnd::BadBlock(slot));
-            }
-            end
+            )?;
+            Ok(state.counts.with_end(end))
         }
-    };
-    Ok(Repaired {
-        end,
-        missed: state.counts.missed,
-        strangers: state.counts.strangers,
-        repeats: state.counts.repeats,
-    })
+    }
 }
 
 /// Repairs a capture, with what it takes to do so but the preamble and the repairer.

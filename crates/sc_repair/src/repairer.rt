@@ -422,6 +422,7 @@ impl Repairer {
         ensures end { (taken : List (Taken ℕ)) → Stands self.old taken → result ≡ known_end taken }
         ensures stands { (taken : List (Taken ℕ)) → Stands self.old taken → Stands self.new taken }
         ensures same { self.new ≡ record self.old { finished = true } }
+        ensures sound { IsSound self.new }
     {
         self.finished = true;
         if self.claimed { self.end } else { self.past }

@@ -1,32 +1,31 @@
-use Rattle.std.proofs.Common.{rules, ◌≡◌, ◌+◌, ◌*◌, ◌<◌, ◌≤◌, ◌∷◌, ◌++◌, [], ℕ, List, false, length, None, IfOk, ◌-◌, ◌/◌, ◌%◌, Bool, true, nat_eq, nat_lt, slice_index_or, slice_set, bit_and, bit_or, Fits, w8, w32, w64, Bor, MutBor}
-use Rattle.sc_outside.specs.Ends.{Ends}
+use Rattle.std.proofs.Common.{◌≡◌, ℕ, Some, None, Ok, Err, refl, sym, ap, ◌∙◌, subst}
+use Rattle.std.proofs.lemmas.Result.{err_from_is_err_and}
 use Rattle.sc_rtpdump.specs.Record.{Record}
-use Rattle.sc_code.specs.declared.code.CodeFile.{CodeFile as CodeFileOf}
-use Rattle.sc_slots.specs.Answers.{slot_in}
-use Rattle.sc_slots.specs.Slot.{IsSlot}
-use Rattle.sc_slots.specs.Slot.{Slot as SlotOf}
-use Rattle.sc_slots.specs.Taken.{Taken, taken_slot}
-use Rattle.sc_repair.specs.Repairer.{FitsEnd}
-use Rattle.sc_repair.specs.Repairing.{repairing, width_in}
-use Rattle.sc_repair.specs.RepairSteps.{AreFew, ComesCounts, ComesIn, IsGoing, IsReady, IsSet, Keeps, Knows, LastGives, PassCounts, PassGives, PlaceCounts, PlaceGives, RecordCounts, RecordGives, RecordsGive, RestGives, Rests, SlotCounts, SlotGives, TakeCounts, TakeGives, fault_of, no_counts}
+use Rattle.sc_code.specs.declared.code.CodeFile.{CodeFile}
+use Rattle.sc_repair.specs.declared.repair.Counts.{Counts}
+use Rattle.sc_repair.specs.Repairer.{Repairer}
+use Rattle.sc_repair.specs.Repairing.{values_text, slots_in, values_so_far}
+use Rattle.sc_repair.specs.RepairSteps.{IsGoing, Keeps, Knows, GivesLast}
+use Rattle.sc_repair.proofs.LastSteps.{none_left, some_left, left_last}
 use Rattle.sc_repair.proofs.repair.put_last.Goals as goal
 
--- src/repair.rt:368:17
-pub put_all-all-requires : goal.put_all-all-requires
-put_all-all-requires g c = ?
+pub returns-in_err-end-in-Some : goal.returns-in_err-end-in-Some
+returns-in_err-end-in-Some g c file records going k =
+    let failed = err_from_is_err_and c.from_residual.result c.from_residual.ensures.1 in
+    let set : IsGoing file (Some c.in-Some.repairer) c.args.state.now.counts = subst (λ o. IsGoing file o c.args.state.now.counts) c.in-Some.is going in
+    let known : Knows file records (Some c.in-Some.repairer) c.args.state.now.counts = subst (λ o. Knows file records o c.args.state.now.counts) c.in-Some.is k in
+    rw (failed.1, failed.2) (left_last file records _ _ c.put_left.new.missed c.in_err-end-in-Some.field-0.0
+    (c.in_err-end-in-Some.ensures file (slots_in file records) (values_text (values_so_far file records)) set known.keeps.0 known.keeps.1))
 
--- src/repair.rt:375:17
-pub returns-in_default : goal.returns-in_default
-returns-in_default g c = ?
+pub returns-in-None : goal.returns-in-None
+returns-in-None g c file records going k =
+    subst (GivesLast file records _ _) (sym c.with_end.ensures)
+    (none_left file records c.args.state.now.counts _ (subst (λ o. IsGoing file o c.args.state.now.counts) c.in-None.is going) (subst (λ o. Knows file records o c.args.state.now.counts) c.in-None.is k))
 
--- src/repair.rt:378:17
-pub returns-in_default-flush : goal.returns-in_default-flush
-returns-in_default-flush g c = ?
-
--- src/repair.rt:381:17
-pub returns-in-Some-bad : goal.returns-in-Some-bad
-returns-in-Some-bad g c = ?
-
--- src/repair.rt:359:1
-pub returns : goal.returns
-returns g c = ?
+pub returns-in_ok-end-in-Some : goal.returns-in_ok-end-in-Some
+returns-in_ok-end-in-Some g c file records going k =
+    let set : IsGoing file (Some c.in-Some.repairer) c.args.state.now.counts = subst (λ o. IsGoing file o c.args.state.now.counts) c.in-Some.is going in
+    let known : Knows file records (Some c.in-Some.repairer) c.args.state.now.counts = subst (λ o. Knows file records o c.args.state.now.counts) c.in-Some.is k in
+    subst (GivesLast file records _ _) (sym c.with_end-in-Some.ensures)
+    (some_left file records c.in-Some.repairer c.args.state.now.counts c.put_left.new.missed _ _ c.in_ok-end-in-Some.end known
+    (c.in_ok-end-in-Some.ensures file (slots_in file records) (values_text (values_so_far file records)) set known.keeps.0 known.keeps.1))

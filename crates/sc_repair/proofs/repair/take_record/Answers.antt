@@ -1,28 +1,27 @@
-use Rattle.std.proofs.Common.{rules, ◌≡◌, ◌+◌, ◌*◌, ◌<◌, ◌≤◌, ◌∷◌, ◌++◌, [], ℕ, List, false, length, None, IfOk, ◌-◌, ◌/◌, ◌%◌, Bool, true, nat_eq, nat_lt, slice_index_or, slice_set, bit_and, bit_or, Fits, w8, w32, w64, Bor, MutBor}
-use Rattle.sc_outside.specs.Ends.{Ends}
-use Rattle.sc_rtpdump.specs.Record.{Record}
-use Rattle.sc_code.specs.declared.code.CodeFile.{CodeFile as CodeFileOf}
-use Rattle.sc_slots.specs.Answers.{slot_in}
-use Rattle.sc_slots.specs.Slot.{IsSlot}
-use Rattle.sc_slots.specs.Slot.{Slot as SlotOf}
-use Rattle.sc_slots.specs.Taken.{Taken, taken_slot}
-use Rattle.sc_repair.specs.Repairer.{FitsEnd}
-use Rattle.sc_repair.specs.Repairing.{repairing, width_in}
-use Rattle.sc_repair.specs.RepairSteps.{AreFew, ComesCounts, ComesIn, IsGoing, IsReady, IsSet, Keeps, Knows, LastGives, PassCounts, PassGives, PlaceCounts, PlaceGives, RecordCounts, RecordGives, RecordsGive, RestGives, Rests, SlotCounts, SlotGives, TakeCounts, TakeGives, fault_of, no_counts}
+use Rattle.std.proofs.Common.{◌≡◌, ℕ, ◌<◌, length, refl, sym, ap, ◌∙◌, subst, arith}
+use Rattle.sc_slots.specs.Answers.{reading, slot_in}
+use Rattle.sc_slots.specs.Slot.{wrong_code, bad_shape}
+use Rattle.sc_repair.specs.declared.repair.RepairEnd.TheVariants.{WrongCode, BadShape}
+use Rattle.sc_repair.specs.Repairing.{values_text, slots_in, values_so_far, refusal}
+use Rattle.sc_repair.specs.RepairSteps.{IsRefused}
+use Rattle.sc_repair.proofs.ReadSteps.{stranger_gives, reading_gives, slot_gives}
 use Rattle.sc_repair.proofs.repair.take_record.Goals as goal
 
--- src/repair.rt:229:1
 pub returns-in-Stranger-clause-gives : goal.returns-in-Stranger-clause-gives
-returns-in-Stranger-clause-gives g c = ?
+returns-in-Stranger-clause-gives g c records count k =
+    stranger_gives c.args.file.now records c.args.rec.now (omega (arith, count, c.requires.index)) c.args.kept.now c.args.counts.now _ _ _ (c.read.ensures.reads ∙ ap reading c.in-Stranger.is) k refl refl refl
 
--- src/repair.rt:229:1
 pub returns-in-WrongCode-clause-gives : goal.returns-in-WrongCode-clause-gives
-returns-in-WrongCode-clause-gives g c = ?
+returns-in-WrongCode-clause-gives g c records count k =
+    subst (λ i. IsRefused (refusal c.args.file.now (length records) (slots_in c.args.file.now records) c.args.rec.now) (g.P.Port.told c.args.port.now) (g.P.Port.told c.args.port.now) c.args.pending.now c.args.pending.now (values_text (values_so_far c.args.file.now records)) (WrongCode i)) count
+    (reading_gives c.args.file.now records c.args.rec.now (omega (arith, count, c.requires.index)) (WrongCode (length records)) wrong_code (g.P.Port.told c.args.port.now) c.args.pending.now (c.read.ensures.reads ∙ ap reading c.in-WrongCode.is) refl)
 
--- src/repair.rt:229:1
 pub returns-in-BadShape-clause-gives : goal.returns-in-BadShape-clause-gives
-returns-in-BadShape-clause-gives g c = ?
+returns-in-BadShape-clause-gives g c records count k =
+    subst (λ i. IsRefused (refusal c.args.file.now (length records) (slots_in c.args.file.now records) c.args.rec.now) (g.P.Port.told c.args.port.now) (g.P.Port.told c.args.port.now) c.args.pending.now c.args.pending.now (values_text (values_so_far c.args.file.now records)) (BadShape i)) count
+    (reading_gives c.args.file.now records c.args.rec.now (omega (arith, count, c.requires.index)) (BadShape (length records)) bad_shape (g.P.Port.told c.args.port.now) c.args.pending.now (c.read.ensures.reads ∙ ap reading c.in-BadShape.is) refl)
 
--- src/repair.rt:229:1
 pub returns-in-Slot-clause-gives : goal.returns-in-Slot-clause-gives
-returns-in-Slot-clause-gives g c = ?
+returns-in-Slot-clause-gives g c records count k =
+    slot_gives c.args.file.now records c.args.rec.now (omega (arith, count, c.requires.index)) (slot_in c.in-Slot.slot) (c.read.ensures.reads ∙ ap reading c.in-Slot.is) c.args.kept.now c.come_in.new.kept c.args.counts.now c.come_in.new.counts
+    _ _ _ _ c.come_in.result k c.come_in.ensures.counts (c.come_in.ensures.gives (slots_in c.args.file.now records) (values_text (values_so_far c.args.file.now records)) k.keeps)
