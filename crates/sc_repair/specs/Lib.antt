@@ -3,3 +3,10 @@ pub mod Stands
 pub mod Equations
 pub mod Fit
 pub mod Takes
+pub mod Values
+pub mod Readings
+pub mod Repairing
+pub mod Steps
+pub mod RepairSteps
+pub mod RepairLaws
+pub mod Prompt

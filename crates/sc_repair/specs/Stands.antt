@@ -67,6 +67,8 @@ IsLeft s taken block None = ArePassedOver s taken (one_past taken)
 
 -- how far the next call is
 abbrev pub OutCounts : Repairer → Repairer → Option Put → Type 0
-OutCounts old new (Some (Block slot)) = (new ≡ record old { next = slot + 1; block = new.block }) × (slot < old.passed)
-OutCounts old new (Some (Missed slot)) = (new ≡ record old { next = slot + 1; block = new.block }) × (slot < old.passed)
+OutCounts old new (Some (Block slot)) =
+    (new ≡ record old { next = slot + 1; block = new.block }) × (old.next ≤ slot) × (slot < old.passed)
+OutCounts old new (Some (Missed slot)) =
+    (new ≡ record old { next = slot + 1; block = new.block }) × (old.next ≤ slot) × (slot < old.passed)
 OutCounts old new None = (new ≡ record old { block = new.block }) × (old.finished ≡ false → old.passed ≤ old.next + old.deadline)

@@ -2,8 +2,13 @@
 #![tactic(auto)]
 
 mod equations;
+mod laws;
+mod put;
+mod repair;
 mod repairer;
 
+pub use laws::repairing_is_a_job;
+pub use repair::{RepairEnd, Repaired, repair_all};
 pub use repairer::{EndState, MAX_SLOTS, Put, Repairer, TakeFault, Unfit};
 
 #[cfg(test)]

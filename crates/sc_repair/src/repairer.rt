@@ -340,6 +340,7 @@ impl Repairer {
         ensures left { self.old.finished ≡ true → (taken : List (Taken ℕ)) → Stands self.old taken → IsLeft self.old taken self.new.block result }
         ensures stands { (taken : List (Taken ℕ)) → Stands self.old taken → Stands self.new taken }
         ensures counts { OutCounts self.old self.new result }
+        ensures sound { IsSound self.new }
     {
         if self.finished {
             return self.next_left();
@@ -351,6 +352,7 @@ impl Repairer {
     pub fn block(&self) -> &[u8]
         ensures bytes { result.now ≡ self.now.block }
         ensures count { length result.now ≡ self.now.k * self.now.m }
+        ensures limit { length result.now ≤ 65503 }
     {
         self.block.as_slice()
     }
@@ -361,6 +363,7 @@ impl Repairer {
         ensures next { (taken : List (Taken ℕ)) → Stands self.old taken → IsNext self.old taken self.new.block result }
         ensures stands { (taken : List (Taken ℕ)) → Stands self.old taken → Stands self.new taken }
         ensures counts { OutCounts self.old self.new result }
+        ensures sound { IsSound self.new }
     {
         let slot = self.next;
         if slot == self.passed {
@@ -385,6 +388,7 @@ impl Repairer {
         ensures left { (taken : List (Taken ℕ)) → Stands self.old taken → IsLeft self.old taken self.new.block result }
         ensures stands { (taken : List (Taken ℕ)) → Stands self.old taken → Stands self.new taken }
         ensures counts { OutCounts self.old self.new result }
+        ensures sound { IsSound self.new }
     {
         let end = if self.claimed { self.end } else { self.past };
         let m = usize::from(self.m);
@@ -418,6 +422,7 @@ impl Repairer {
         ensures end { (taken : List (Taken ℕ)) → Stands self.old taken → result ≡ known_end taken }
         ensures stands { (taken : List (Taken ℕ)) → Stands self.old taken → Stands self.new taken }
         ensures same { self.new ≡ record self.old { finished = true } }
+        ensures sound { IsSound self.new }
     {
         self.finished = true;
         if self.claimed { self.end } else { self.past }
