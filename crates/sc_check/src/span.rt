@@ -79,28 +79,39 @@ fn unit_parity(code: &ByteCode, s: usize, i: usize, t: usize, j: usize) -> u8
     code.coefficient(t - s, i, j).number()
 }
 
-// The rows, and behind them the images of the unit streams of slot `s`.
-pub(crate) fn with_units(
-    alloc: Global,
-    rows: &Matrix<Gf256>,
+// Makes the rows of `to` those of `from`, which has as many columns. It takes memory only where `to` has no room for them.
+pub(crate) fn copy_rows(to: &mut Matrix<Gf256>, from: &Matrix<Gf256>) -> Result<(), NoMemory>
+    requires { to.old.cols ≡ from.now.cols }
+    ensures { OnOk result (to.new ≡ from.now) }
+{
+    from.known();
+    to.clear();
+    for i in 0..from.rows() {
+        to.push_row(from.row(i))?;
+    }
+    Ok(())
+}
+
+// Appends the images of the unit streams of slot `s`. It takes memory only where there is no room for them.
+pub(crate) fn push_units(
+    rows: &mut Matrix<Gf256>,
     images: &Matrix<Gf256>,
     k: usize,
     s: usize,
-) -> Result<Matrix<Gf256>, NoMemory>
-    requires cols { images.now.cols ≡ rows.now.cols }
+) -> Result<(), NoMemory>
+    requires cols { images.now.cols ≡ rows.old.cols }
     requires slot { s * k + k ≤ row_count images.now }
     requires slots { s ≤ 41 }
-    requires few { row_count rows.now ≤ 2624 }
+    requires few { row_count rows.old ≤ 2624 }
     requires small { k ≤ 64 }
-    requires narrow { rows.now.cols ≤ 2688 }
-    ensures cols { IfOk result (λ m. m.cols ≡ rows.now.cols) }
-    ensures rows { IfOk result (λ m. m.rows ≡ rows.now.rows ++ map (λ p. row images.now (s * k + p)) (range_with_len 0 k)) }
+    requires narrow { rows.old.cols ≤ 2688 }
+    ensures cols { OnOk result (rows.new.cols ≡ rows.old.cols) }
+    ensures rows { OnOk result (rows.new.rows ≡ rows.old.rows ++ map (λ p. row images.now (s * k + p)) (range_with_len 0 k)) }
 {
-    let mut more = rows.copy(alloc)?;
     for p in 0..k {
-        more.push_row(images.row(s * k + p))?;
+        rows.push_row(images.row(s * k + p))?;
     }
-    Ok(more)
+    Ok(())
 }
 
 // Keeps what the rows span of vectors that are zero in the columns from `from` to `from` + `count` - 1.
