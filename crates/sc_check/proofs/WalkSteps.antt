@@ -281,11 +281,12 @@ lost_within m n none some count =
     omega (arith, ap (λ (k : ℕ). k / m) nothing, zero-div m)
 lost_within m n (suc ways) some count = first_set m n (suc ways) some count (omega arith)
 
-pub FirstIn-told : {E : Type 0} (code : Code ℕ) (channel : ChannelNumbers) (from to middle high : ℕ) (lost : Option ℕ) (r : Result (Option ℕ) E) → high ≡ min to middle → false ≡ is_some lost → FirstIn code channel from high lost
-    → IfOk r (FirstIn code channel (max from middle) to) → IfOk r (FirstIn code channel from to)
-FirstIn-told code channel from to middle high lost (Err e) same not l k = k
-FirstIn-told code channel from to middle high (Some index) (Ok found) same not l k = absurd (false≢true not)
-FirstIn-told code channel from to middle high None (Ok found) same not l k = FirstIn-kept code channel from to middle found (λ i le lt. l i le (omega arith)) k
+pub FirstIn-told : {E : Type 0} (code : Code ℕ) (channel : ChannelNumbers) (from to middle high low : ℕ) (lost : Option ℕ) (r : Result (Option ℕ) E) → high ≡ min to middle → low ≡ max from middle → false ≡ is_some lost
+    → FirstIn code channel from high lost → IfOk r (FirstIn code channel low to) → IfOk r (FirstIn code channel from to)
+FirstIn-told code channel from to middle high low lost (Err e) same behind not l k = k
+FirstIn-told code channel from to middle high low (Some index) (Ok found) same behind not l k = absurd (false≢true not)
+FirstIn-told code channel from to middle high low None (Ok found) same behind not l k =
+    FirstIn-kept code channel from to middle found (λ i le lt. l i le (omega arith)) (subst (λ (n : ℕ). FirstIn code channel n to found) behind k)
 
 -- ---- the flags that a front begins with stay
 take_twice : (n : ℕ) (xs : List Bool) → take n (take (suc n) xs) ≡ take n xs

@@ -25,8 +25,8 @@ first_among-returns-then-front-flags-clause-found t c =
 
 pub first_below-returns-clause-found : goal.first_below-returns-clause-found
 first_below-returns-clause-found t c =
-    FirstIn-told c.args.walk.now.code.now c.args.walk.now.classes.now c.args.from c.args.to (c.args.front.first + c.ways_lost.result) c.min-high.result c.in_ok-found.found c.first_kept.result c.min-high.ensures (sym c.if-is_some.false ∙ c.is_some.ensures)
-    c.in_ok-found.ensures.found (rw (sym c.max-low.ensures) c.first_kept.ensures.found)
+    FirstIn-told c.args.walk.now.code.now c.args.walk.now.classes.now c.args.from c.args.to (c.args.front.first + c.ways_lost.result) c.min-high.result c.max-low.result c.in_ok-found.found c.first_kept.result
+    c.min-high.ensures c.max-low.ensures (sym c.if-is_some.false ∙ c.is_some.ensures) c.in_ok-found.ensures.found c.first_kept.ensures.found
 
 pub first_kept-returns-clause-kept : goal.first_kept-returns-clause-kept
 first_kept-returns-clause-kept t c =
