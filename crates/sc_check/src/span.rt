@@ -36,31 +36,61 @@ pub(crate) fn unit_images(
 }
 
 // Writes image `n`.
-fn write_unit(image: &mut Vec<u8>, code: &ByteCode, slots: usize, n: usize) -> Result<(), NoMemory>
+fn write_unit(bytes: &mut Vec<u8>, code: &ByteCode, slots: usize, n: usize) -> Result<(), NoMemory>
     requires few { slots ≤ 41 }
     requires unit { n < slots * code.now.k }
-    ensures { OnOk result (image.new.items ≡ unit_image code.now slots n) }
+    ensures { OnOk result (bytes.new.items ≡ unit_image code.now slots n) }
 {
-    image.clear();
-    for c in 0..slots * code.r() + code.k() {
-        image.push(unit_entry(code, slots, n / code.k(), n % code.k(), c))?;
+    let (s, i) = (n / code.k(), n % code.k());
+    bytes.clear();
+    for t in 0..slots {
+        push_parities(bytes, code, slots, s, i, t)?;
+    }
+    push_block(bytes, code, slots, s, i)
+}
+
+// Appends the parities of slot `t` to those of the slots before it, of the image of symbol `i` of slot `s`.
+fn push_parities(
+    bytes: &mut Vec<u8>,
+    code: &ByteCode,
+    slots: usize,
+    s: usize,
+    i: usize,
+    t: usize,
+) -> Result<(), NoMemory>
+    requires symbol { i < code.now.k }
+    requires within { t < slots }
+    requires before { bytes.old.items ≡ map (image_entry code.now slots (unit_stream s i)) (range_with_len 0 (t * code.now.r)) }
+    ensures { OnOk result (bytes.new.items ≡ map (image_entry code.now slots (unit_stream s i)) (range_with_len 0 ((t + 1) * code.now.r))) }
+{
+    for j in 0..code.r() {
+        bytes.push(unit_parity(code, s, i, t, j))?;
     }
     Ok(())
 }
 
-// Entry `c` of the image of symbol `i` of slot `s`.
-fn unit_entry(code: &ByteCode, slots: usize, s: usize, i: usize, c: usize) -> u8
-    requires few { slots ≤ 41 }
-    requires slot { s < slots }
-    requires symbol { i < code.now.k }
-    requires within { c < image_width code.now slots }
-    ensures { result ≡ image_entry code.now slots (unit_stream s i) c }
+// Appends block 0 to the parities of all slots, of the image of symbol `i` of slot `s`.
+fn push_block(
+    bytes: &mut Vec<u8>,
+    code: &ByteCode,
+    slots: usize,
+    s: usize,
+    i: usize,
+) -> Result<(), NoMemory>
+    requires before { bytes.old.items ≡ map (image_entry code.now slots (unit_stream s i)) (range_with_len 0 (slots * code.now.r)) }
+    ensures { OnOk result (bytes.new.items ≡ image code.now slots (unit_stream s i)) }
 {
-    let parities = slots * code.r();
-    if c < parities {
-        return unit_parity(code, s, i, c / code.r(), c % code.r());
+    for u in 0..code.k() {
+        bytes.push(unit_symbol(s, i, u))?;
     }
-    if s == 0 && i == c - parities { 1 } else { 0 }
+    Ok(())
+}
+
+// Symbol `u` of block 0 where symbol `i` of slot `s` is one and all else is zero.
+fn unit_symbol(s: usize, i: usize, u: usize) -> u8
+    ensures { result ≡ unit_stream s i 0 u }
+{
+    if s == 0 && u == i { 1 } else { 0 }
 }
 
 // Parity symbol `j` of slot `t` where symbol `i` of slot `s` is one and all else is zero.
