@@ -1,4 +1,3 @@
-use Rattle.std.proofs.Common.{◌≡◌, ◌+◌, ◌*◌}
 use Rattle.sc_check.specs.Walk.{IsRoom}
 use Rattle.sc_check.proofs.walk.room_for.Given as goal
 
