@@ -3,7 +3,7 @@
 ghost use Rattle.std.specs.Prelude.{◌≡◌, ◌↔◌, ◌<◌, ◌≤◌, ◌+◌, ◌*◌, ◌/◌, IsTrue, IfOk, MatchOption, if◌then◌else◌};
 ghost use Rattle.std.specs.Thread.{IsSync};
 ghost use Rattle.sc_channel.specs.Classes.{class_count};
-ghost use Rattle.sc_check.specs.Failing.{DecidesAt, DecidesAll, IsFirstFailing, FirstIn, FirstBehind, least_found};
+ghost use Rattle.sc_check.specs.Failing.{DecidesAt, DecidesAll, IsFirstFailing, FirstBehind, least_found};
 
 use crate::gate::Gate;
 use crate::span::unit_images;

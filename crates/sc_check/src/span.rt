@@ -1,9 +1,9 @@
 //! What the streams that the losses so far leave open can still give: the rows of a matrix span it. A row has the parities of a
 //! stream in all slots, and its block 0 last.
 
-ghost use Rattle.std.specs.Prelude.{◌≡◌, ◌≢◌, ◌↔◌, ◌<◌, ◌≤◌, ◌+◌, ◌*◌, ◌/◌, ◌%◌, ◌++◌, ℕ, [], length, map, bit_xor, IsTrue, IfOk, OnOk, MatchOption};
+ghost use Rattle.std.specs.Prelude.{◌≡◌, ◌≢◌, ◌↔◌, ◌<◌, ◌≤◌, ◌+◌, ◌*◌, ◌/◌, ◌%◌, ◌++◌, ℕ, map, bit_xor, IsTrue, IfOk, OnOk, MatchOption};
 ghost use Rattle.std.specs.List.{range_with_len};
-ghost use Rattle.sc_field.specs.Gf256.{gf256_product, gf256_inverse};
+ghost use Rattle.sc_field.specs.Gf256.{gf256_product};
 ghost use Rattle.sc_matrix.specs.Module.{IsByte};
 ghost use Rattle.sc_matrix.specs.Matrix.{IsMatrix, entry, row, row_count};
 ghost use Rattle.sc_matrix.specs.RowSpace.{HaveOneRowSpace};

@@ -3,9 +3,8 @@
 //! slots of class 0 alone, where the code decides that one. What the slots so far leave open is kept by vectors that span it, so
 //! that classes share the work of the slots that they begin with.
 
-ghost use Rattle.std.specs.Prelude.{◌≡◌, ◌↔◌, ◌<◌, ◌≤◌, ◌+◌, ◌-◌, ◌*◌, ◌/◌, length, take, slice_index_or, true, false, IsTrue, IfOk, OnOk, MatchOption};
+ghost use Rattle.std.specs.Prelude.{◌≡◌, ◌↔◌, ◌<◌, ◌≤◌, ◌+◌, ◌-◌, ◌*◌, ◌/◌, length, take, slice_index_or, true, false, IsTrue, IfOk, OnOk};
 ghost use Rattle.sc_field.specs.Gf256.{gf256_product};
-ghost use Rattle.sc_channel.specs.Channel.{IsChannel};
 ghost use Rattle.sc_channel.specs.Flags.{IsSet};
 ghost use Rattle.sc_channel.specs.Classes.{class_count};
 ghost use Rattle.sc_code.specs.Determined.{IsDecided};
