@@ -15,7 +15,7 @@ typedef struct { u8 low[16], high[16]; } Tables;
 static u8 products[256][256], inverse[256];
 static Tables tables[256] __attribute__((aligned(64)));
 static int window, burst, most, deadline, k, r, lags;
-static u8 *entries, *rows[64 * 41], *room;
+static u8 *entries, *by_parity, *zero, *rows[64 * 41], *room;
 static int where[64 * 41];
 
 static u8 times(int x, int y) {
@@ -34,6 +34,15 @@ static inline void add(u8 *dst, const u8 *src, int c, int n) {
     }
 }
 
+// The first column from c on at which the row isn't zero, of so many.
+static inline int next_set(const u8 *row, int c, int cols) {
+    for (int from = c & ~15; from < cols; from += 16, c = from) {
+        int set = 65535 & ~_mm_movemask_epi8(_mm_cmpeq_epi8(_mm_loadu_si128((void *)(row + from)), _mm_setzero_si128())) & -1 << (c - from);
+        if (set) return from + __builtin_ctz(set);
+    }
+    return cols;
+}
+
 // One class: the lost slots in order, slot 0 first.
 static int decided(const int *lost, int count, const u8 *flags) {
     int cols = count * k, used = 0, known = 0;
@@ -47,11 +56,11 @@ static int decided(const int *lost, int count, const u8 *flags) {
             for (int a = 0; a < count && lost[a] <= t; a++) {
                 int lag = t - lost[a], at = (count - 1 - a) * k;
                 if (lag >= lags) continue;
-                for (int i = 0; i < k; i++) some |= row[at + i] = entries[(lag * k + i) * r + j];
+                if (!zero[lag * r + j]) memcpy(row + at, by_parity + (lag * r + j) * k, k), some = 1;
             }
             if (!some) continue;
             for (int c = 0; c < cols; c++) {
-                if (!row[c]) continue;
+                if (!row[c] && (c = next_set(row, c, cols)) == cols) break;
                 if (where[c] >= 0) {
                     int from = c & ~15;
                     add(row + from, rows[where[c]] + from, row[c], cols - from);
@@ -88,6 +97,13 @@ int main(int argc, char **argv) {
         if (fscanf(file, "%d", &x) != 1) return 2;
         entries[i] = x;
     }
+    by_parity = malloc(lags * k * r), zero = calloc(lags * r, 1);
+    for (int lag = 0; lag < lags; lag++)
+        for (int j = 0; j < r; j++) {
+            int some = 0;
+            for (int i = 0; i < k; i++) some |= by_parity[(lag * r + j) * k + i] = entries[(lag * k + i) * r + j];
+            zero[lag * r + j] = !some;
+        }
     for (int x = 0; x < 256; x++)
         for (int y = 0; y < 256; y++) if ((products[x][y] = times(x, y)) == 1) inverse[x] = y;
     for (int c = 0; c < 256; c++)

@@ -1,6 +1,6 @@
 -- The least index over parts that stand side by side.
-use Rattle.std.proofs.Common.{◌≡◌, ℕ, ◌+◌, ◌*◌, ◌/◌, ◌<◌, ◌≤◌, ◌↔◌, bit_xor, min, Bool, List, [], Option, Some, None, MatchOption, Result, Ok, Err, IfOk, IsTrue, refl, sym, ap, ◌∙◌, subst, arith, inl, inr}
-use Rattle.std.proofs.lemmas.Bool.{cases_lt, cases_order}
+use Rattle.std.proofs.Common.{◌≡◌, ℕ, ◌+◌, ◌*◌, ◌/◌, ◌<◌, ◌≤◌, ◌↔◌, bit_xor, min, Bool, true, false, cond, List, [], Option, Some, None, MatchOption, Result, Ok, Err, IfOk, IsTrue, refl, sym, ap, ◌∙◌, subst, arith, inl, inr}
+use Rattle.std.proofs.lemmas.Bool.{cases_lt, cases_order, false≢true}
 use Rattle.std.proofs.lemmas.List.{get_or_default}
 use Rattle.std.proofs.lemmas.Nat.{le-div, mul-le}
 use Rattle.std.proofs.Math.Nat.{div-mul-le_self, mul-div_cancel_left}
@@ -15,7 +15,7 @@ use Rattle.sc_code.proofs.ElementLaws.{IsDecidedOver-iff_bytes}
 use Rattle.sc_channel.specs.Flags.{IsSet}
 use Rattle.sc_channel.proofs.SetCountSteps.{IsSet-in_range}
 use Rattle.sc_matrix.specs.Module.{IsByte}
-use Rattle.sc_check.specs.Failing.{DecidesAt, DecidesAll, IsFirstIn, FirstIn, IsFirstFailing, least_found}
+use Rattle.sc_check.specs.Failing.{DecidesAt, DecidesAll, IsFirstIn, FirstIn, FirstBehind, IsFirstFailing, least_found}
 
 -- one class more
 pub decides-more : (code : Code ℕ) (channel : ChannelNumbers) (from index : ℕ) → ((i : ℕ) → from ≤ i → i < index → DecidesAt code channel i) → DecidesAt code channel index → (i : ℕ) → from ≤ i → i < index + 1 → DecidesAt code channel i
@@ -73,13 +73,21 @@ first_failing-one code channel (Some i) (Some j) x y =
       | inr apart ↦ elim apart [ inl less ↦ absurd (x.fails (y.earlier i less)) | inr more ↦ absurd (y.fails (x.earlier j more)) ]
     ]
 
-pub all-told : {E : Type 0} (code : Code ℕ) (channel : ChannelNumbers) (parts : ℕ) (r : Result (Option ℕ) E) → 0 < parts → IfOk r (FirstIn code channel (0 * class_count channel / parts) (parts * class_count channel / parts))
-    → IfOk r (λ found. MatchOption found (DecidesAll code channel) (IsFirstFailing code channel))
-all-told code channel parts (Err e) some told = told
-all-told code channel parts (Ok found) some told =
+parts-told : (code : Code ℕ) (channel : ChannelNumbers) (parts : ℕ) (found : Option ℕ) → 0 < parts → DecidesAt code channel 0
+    → FirstBehind code channel (0 * class_count channel / parts) (parts * class_count channel / parts) found → MatchOption found (DecidesAll code channel) (IsFirstFailing code channel)
+parts-told code channel parts found some burst told =
     let nothing : 0 * class_count channel ≡ parts * 0 = omega arith in
     let start : 0 * class_count channel / parts ≡ 0 = ap (λ (k : ℕ). k / parts) nothing ∙ mul-div_cancel_left 0 some in
-    first-of_all code channel (0 * class_count channel / parts) (parts * class_count channel / parts) found start (mul-div_cancel_left (class_count channel) some) told
+    first-of_all code channel (0 * class_count channel / parts) (parts * class_count channel / parts) found start (mul-div_cancel_left (class_count channel) some) (told burst)
+
+-- Where class 0 doesn't decide, it is the first.
+pub all-told : (code : Code ℕ) (channel : ChannelNumbers) (parts : ℕ) (burst : Bool) (found first : Option ℕ) → 0 < parts → IsTrue burst ↔ DecidesAt code channel 0
+    → FirstBehind code channel (0 * class_count channel / parts) (parts * class_count channel / parts) found → first ≡ cond burst found (Some 0) → MatchOption first (DecidesAll code channel) (IsFirstFailing code channel)
+all-told code channel parts true found first some is told e =
+    subst (λ (o : Option ℕ). MatchOption o (DecidesAll code channel) (IsFirstFailing code channel)) (sym e) (parts-told code channel parts found some (is.0 refl) told)
+all-told code channel parts false found first some is told e =
+    subst (λ (o : Option ℕ). MatchOption o (DecidesAll code channel) (IsFirstFailing code channel)) (sym e)
+    (record { in_range = omega arith; fails = λ decided. false≢true (is.1 decided); earlier = λ i lt. absurd (omega arith) })
 
 -- a later part begins no earlier
 pub start-mono : (a b count parts : ℕ) → 0 < parts → a ≤ b → a * count / parts ≤ b * count / parts

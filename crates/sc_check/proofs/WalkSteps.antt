@@ -1,13 +1,13 @@
 -- The classes that begin with the same flags: those that go on with a lost slot, and those that go on with a kept one.
-use Rattle.std.proofs.Common.{◌≡◌, ℕ, zero as none, suc, ◌+◌, ◌-◌, ◌*◌, ◌/◌, ◌<◌, ◌≤◌, Bool, true, false, List, [], ◌∷◌, ◌++◌, length, get_or, map, take, set, Option, Some, None, min, max, Result, Ok, Err, IfOk, IsTrue, ◌↔◌, refl, sym, ap, ap₂, ◌∙◌, subst, arith, inl, inr}
+use Rattle.std.proofs.Common.{◌≡◌, ℕ, zero as none, suc, ◌+◌, ◌-◌, ◌*◌, ◌/◌, ◌<◌, ◌≤◌, Bool, true, false, List, [], ◌∷◌, ◌++◌, length, get_or, map, replicate, take, set, Option, Some, None, min, max, Result, Ok, Err, IfOk, IsTrue, ◌↔◌, refl, sym, ap, ap₂, ◌∙◌, subst, arith, inl, inr}
 use Rattle.std.proofs.lemmas.Bool.{cases_lt, false≢true}
-use Rattle.std.proofs.lemmas.List.{append_assoc, append-nil, take_all, take_more, get_or-map, get_or_default, get_or_append_left, take-set, length-take-le, length-append}
+use Rattle.std.proofs.lemmas.List.{append_assoc, append-nil, take_all, take_more, get_or-map, get_or_default, get_or_append_left, take-set, length-take-le, length-append, length-replicate, get_or-replicate, get_or-append_right}
 use Rattle.std.proofs.Math.Nat.{zero-div}
 use Rattle.std.specs.Option.{is_some}
 use Rattle.sc_field.specs.Gf256.{gf256_product}
 use Rattle.sc_channel.specs.Channel.{ChannelNumbers}
 use Rattle.sc_channel.specs.Flags.{IsSet}
-use Rattle.sc_channel.specs.Classes.{choose, flags_with, class_count}
+use Rattle.sc_channel.specs.Classes.{choose, flags_with, class_count, burst_class}
 use Rattle.sc_channel.proofs.ChooseSteps.{ways_with_first-is}
 use Rattle.sc_channel.proofs.OrderSteps.{flags_at, length-flags_with, IsWritten-start, IsWritten-set, IsWritten-clear, first-within}
 use Rattle.sc_channel.proofs.SetCountSteps.{IsSet-in_range}
@@ -178,6 +178,58 @@ decides-front code channel flags done left first ways from to front low high dec
     subst (IsDecided 0 gf256_product code) (sym class)
     (decided_longer code (take done flags) (flags_at (channel.t + 1 - done) left (i - first)) (IsSet-in_range (take done flags) 0 front.first_lost) decided)
 
+-- ---- classes that lose slots of class 0 alone
+clear_flags : (m : ℕ) → flags_with m 0 ≡ replicate m false ∷ []
+clear_flags none = refl
+clear_flags (suc m) = ap (map (λ (flags : List Bool). false ∷ flags)) (clear_flags m)
+
+-- A kept slot of class 0 lies behind the burst.
+kept-burst : (channel : ChannelNumbers) (k : ℕ) → channel.b ≤ channel.t → IsKept (burst_class channel) k → (channel.b ≤ k) × (k < channel.t + 1)
+kept-burst channel k le kept =
+    let ones : List Bool = replicate channel.b true in
+    let rest : List Bool = replicate (channel.t + 1 - channel.b) false in
+    let long : length (replicate channel.b true ++ replicate (channel.t + 1 - channel.b) false) ≡ channel.b + (channel.t + 1 - channel.b) =
+    length-append ones rest ∙ ap₂ (λ (a b : ℕ). a + b) (length-replicate channel.b true) (length-replicate (channel.t + 1 - channel.b) false) in
+    let within : k < channel.t + 1 = omega (arith, IsKept-in_range (burst_class channel) k kept, long) in
+    elim (cases_lt k channel.b) [
+      | inl below ↦
+          absurd (false≢true (sym kept ∙ get_or_append_left ones rest true k (omega (arith, length-replicate channel.b true)) ∙ get_or-replicate channel.b k true true below))
+      | inr past ↦ (past, within)
+    ]
+
+-- where no flag is left to be set, the one class behind `done` flags keeps all slots from there on
+kept-behind : (flags : List Bool) (done m k : ℕ) → done ≤ length flags → done ≤ k → k < done + m → IsKept (take done flags ++ replicate m false) k
+kept-behind flags done m k le low high =
+    let here : length (take done flags) ≡ done = length-take-le done flags le in
+    get_or-append_right (take done flags) (replicate m false) done k true here low ∙ get_or-replicate m (k - done) false true (omega arith)
+
+-- More losses determine less: where class 0 is decided, so is a class all of whose lost slots class 0 loses.
+decides_fewer : (code : Code ℕ) (more fewer : List Bool) → length fewer ≡ length more → ((k : ℕ) → IsKept more k → IsKept fewer k) → IsDecided 0 gf256_product code more → IsDecided 0 gf256_product code fewer
+decides_fewer code more fewer same kept decided = λ xs stream long zeros. decided xs stream (long ∙ same) (λ i is. zeros i (kept i is))
+
+pub decides-within_burst : (code : Code ℕ) (channel : ChannelNumbers) (flags : List Bool) (done left first ways from to : ℕ) → channel.b ≤ channel.t → length flags ≡ channel.t + 1 → IsFrontOf channel flags done left first ways
+    → left ≡ 0 → done ≤ channel.b → first ≤ from → to ≤ first + ways → DecidesAt code channel 0 → (i : ℕ) → from ≤ i → i < to → DecidesAt code channel i
+decides-within_burst code channel flags done left first ways from to ordered long front none_left within low high burst i le lt =
+    let m : ℕ = channel.t + 1 - done in
+    let at : first + 0 ≡ i = omega (arith, one_way) in
+    let class : class_at channel i ≡ take done flags ++ replicate (channel.t + 1 - done) false =
+    ap (class_at channel) (sym at) ∙ front.classes 0 (omega arith)
+    ∙ ap (λ (n : ℕ). take done flags ++ get_or (flags_with (channel.t + 1 - done) n) 0 []) none_left
+    ∙ ap (λ (lists : List (List Bool)). take done flags ++ get_or lists 0 []) (clear_flags (channel.t + 1 - done)) in
+    let ones : List Bool = replicate channel.b true in
+    let rest : List Bool = replicate (channel.t + 1 - channel.b) false in
+    let long_burst : length (burst_class channel) ≡ channel.b + (channel.t + 1 - channel.b) =
+    length-append ones rest ∙ ap₂ (λ (a b : ℕ). a + b) (length-replicate channel.b true) (length-replicate (channel.t + 1 - channel.b) false) in
+    let long_class : length (take done flags ++ replicate (channel.t + 1 - done) false) ≡ done + (channel.t + 1 - done) =
+    length-append (take done flags) (replicate (channel.t + 1 - done) false) ∙ ap₂ (λ (a b : ℕ). a + b) (length-take-le done flags (omega arith)) (length-replicate (channel.t + 1 - done) false) in
+    subst (IsDecided 0 gf256_product code) (sym class)
+    (decides_fewer code (burst_class channel) (take done flags ++ replicate (channel.t + 1 - done) false) (omega (arith, long_burst, long_class))
+    (λ k kept. let behind = kept-burst channel k ordered kept in kept-behind flags done (channel.t + 1 - done) k (omega arith) (omega (arith, behind.0)) (omega (arith, behind.1)))
+    burst)
+  where
+    one_way : ways ≡ 1
+    one_way = front.count ∙ ap (choose (channel.t + 1 - done)) none_left
+
 -- where no slot is to come, a front has one class: its flags
 no_flags : (left i : ℕ) → flags_at 0 left i ≡ []
 no_flags none none = refl
@@ -229,11 +281,12 @@ lost_within m n none some count =
     omega (arith, ap (λ (k : ℕ). k / m) nothing, zero-div m)
 lost_within m n (suc ways) some count = first_set m n (suc ways) some count (omega arith)
 
-pub FirstIn-told : {E : Type 0} (code : Code ℕ) (channel : ChannelNumbers) (from to middle high : ℕ) (lost : Option ℕ) (r : Result (Option ℕ) E) → high ≡ min to middle → false ≡ is_some lost → FirstIn code channel from high lost
-    → IfOk r (FirstIn code channel (max from middle) to) → IfOk r (FirstIn code channel from to)
-FirstIn-told code channel from to middle high lost (Err e) same not l k = k
-FirstIn-told code channel from to middle high (Some index) (Ok found) same not l k = absurd (false≢true not)
-FirstIn-told code channel from to middle high None (Ok found) same not l k = FirstIn-kept code channel from to middle found (λ i le lt. l i le (omega arith)) k
+pub FirstIn-told : {E : Type 0} (code : Code ℕ) (channel : ChannelNumbers) (from to middle high low : ℕ) (lost : Option ℕ) (r : Result (Option ℕ) E) → high ≡ min to middle → low ≡ max from middle → false ≡ is_some lost
+    → FirstIn code channel from high lost → IfOk r (FirstIn code channel low to) → IfOk r (FirstIn code channel from to)
+FirstIn-told code channel from to middle high low lost (Err e) same behind not l k = k
+FirstIn-told code channel from to middle high low (Some index) (Ok found) same behind not l k = absurd (false≢true not)
+FirstIn-told code channel from to middle high low None (Ok found) same behind not l k =
+    FirstIn-kept code channel from to middle found (λ i le lt. l i le (omega arith)) (subst (λ (n : ℕ). FirstIn code channel n to found) behind k)
 
 -- ---- the flags that a front begins with stay
 take_twice : (n : ℕ) (xs : List Bool) → take n (take (suc n) xs) ≡ take n xs

@@ -29,6 +29,10 @@ pub record IsFirstIn (code : Code ℕ) (channel : ChannelNumbers) (from to index
 abbrev pub FirstIn : Code ℕ → ChannelNumbers → ℕ → ℕ → Option ℕ → Type 0
 FirstIn code channel from to found = MatchOption found ((i : ℕ) → from ≤ i → i < to → DecidesAt code channel i) (IsFirstIn code channel from to)
 
+-- the same, where the first class decides
+abbrev pub FirstBehind : Code ℕ → ChannelNumbers → ℕ → ℕ → Option ℕ → Type 0
+FirstBehind code channel from to found = DecidesAt code channel 0 → FirstIn code channel from to found
+
 -- of all indices the least whose class doesn't decide
 pub record IsFirstFailing (code : Code ℕ) (channel : ChannelNumbers) (index : ℕ) : Type 0 where
   pub in_range : index < class_count channel

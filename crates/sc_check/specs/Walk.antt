@@ -1,5 +1,6 @@
 -- The classes behind the first, by the flags that they begin with.
-use Rattle.std.specs.Prelude.{◌≡◌, ℕ, ◌+◌, ◌-◌, ◌<◌, ◌≤◌, List, [], ◌++◌, Bool, take, slice_index_or}
+use Rattle.std.specs.Prelude.{◌≡◌, ℕ, ◌+◌, ◌-◌, ◌<◌, ◌≤◌, List, [], ◌++◌, Bool, All, length, take, slice_index_or}
+use Rattle.sc_matrix.specs.Matrix.{Matrix}
 use Rattle.sc_channel.specs.Channel.{ChannelNumbers}
 use Rattle.sc_channel.specs.Classes.{choose, flags_with, class_count}
 use Rattle.sc_channel.specs.Flags.{IsSet}
@@ -13,3 +14,8 @@ pub record IsFrontOf (channel : ChannelNumbers) (flags : List Bool) (done left f
   pub count : ways ≡ choose (channel.t + 1 - done) left
   pub in_range : first + ways ≤ class_count channel
   pub classes : (i : ℕ) → i < ways → class_at channel (first + i) ≡ take done flags ++ slice_index_or (flags_with (channel.t + 1 - done) left) i []
+
+-- Spare matrices for what more losses leave open: at least so many, each of the width of an image.
+pub record IsRoom (width left : ℕ) (spare : List (Matrix ℕ)) : Type 0 where
+  pub enough : left ≤ length spare
+  pub widths : All (λ m. m.cols ≡ width) spare

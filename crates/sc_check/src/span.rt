@@ -1,9 +1,9 @@
 //! What the streams that the losses so far leave open can still give: the rows of a matrix span it. A row has the parities of a
 //! stream in all slots, and its block 0 last.
 
-ghost use Rattle.std.specs.Prelude.{◌≡◌, ◌≢◌, ◌↔◌, ◌<◌, ◌≤◌, ◌+◌, ◌*◌, ◌/◌, ◌%◌, ◌++◌, ℕ, [], length, map, bit_xor, IsTrue, IfOk, OnOk, MatchOption};
+ghost use Rattle.std.specs.Prelude.{◌≡◌, ◌≢◌, ◌↔◌, ◌<◌, ◌≤◌, ◌+◌, ◌*◌, ◌/◌, ◌%◌, ◌++◌, ℕ, map, bit_xor, IsTrue, IfOk, OnOk, MatchOption};
 ghost use Rattle.std.specs.List.{range_with_len};
-ghost use Rattle.sc_field.specs.Gf256.{gf256_product, gf256_inverse};
+ghost use Rattle.sc_field.specs.Gf256.{gf256_product};
 ghost use Rattle.sc_matrix.specs.Module.{IsByte};
 ghost use Rattle.sc_matrix.specs.Matrix.{IsMatrix, entry, row, row_count};
 ghost use Rattle.sc_matrix.specs.RowSpace.{HaveOneRowSpace};
@@ -36,31 +36,61 @@ pub(crate) fn unit_images(
 }
 
 // Writes image `n`.
-fn write_unit(image: &mut Vec<u8>, code: &ByteCode, slots: usize, n: usize) -> Result<(), NoMemory>
+fn write_unit(bytes: &mut Vec<u8>, code: &ByteCode, slots: usize, n: usize) -> Result<(), NoMemory>
     requires few { slots ≤ 41 }
     requires unit { n < slots * code.now.k }
-    ensures { OnOk result (image.new.items ≡ unit_image code.now slots n) }
+    ensures { OnOk result (bytes.new.items ≡ unit_image code.now slots n) }
 {
-    image.clear();
-    for c in 0..slots * code.r() + code.k() {
-        image.push(unit_entry(code, slots, n / code.k(), n % code.k(), c))?;
+    let (s, i) = (n / code.k(), n % code.k());
+    bytes.clear();
+    for t in 0..slots {
+        push_parities(bytes, code, slots, s, i, t)?;
+    }
+    push_block(bytes, code, slots, s, i)
+}
+
+// Appends the parities of slot `t` to those of the slots before it, of the image of symbol `i` of slot `s`.
+fn push_parities(
+    bytes: &mut Vec<u8>,
+    code: &ByteCode,
+    slots: usize,
+    s: usize,
+    i: usize,
+    t: usize,
+) -> Result<(), NoMemory>
+    requires symbol { i < code.now.k }
+    requires within { t < slots }
+    requires before { bytes.old.items ≡ map (image_entry code.now slots (unit_stream s i)) (range_with_len 0 (t * code.now.r)) }
+    ensures { OnOk result (bytes.new.items ≡ map (image_entry code.now slots (unit_stream s i)) (range_with_len 0 ((t + 1) * code.now.r))) }
+{
+    for j in 0..code.r() {
+        bytes.push(unit_parity(code, s, i, t, j))?;
     }
     Ok(())
 }
 
-// Entry `c` of the image of symbol `i` of slot `s`.
-fn unit_entry(code: &ByteCode, slots: usize, s: usize, i: usize, c: usize) -> u8
-    requires few { slots ≤ 41 }
-    requires slot { s < slots }
-    requires symbol { i < code.now.k }
-    requires within { c < image_width code.now slots }
-    ensures { result ≡ image_entry code.now slots (unit_stream s i) c }
+// Appends block 0 to the parities of all slots, of the image of symbol `i` of slot `s`.
+fn push_block(
+    bytes: &mut Vec<u8>,
+    code: &ByteCode,
+    slots: usize,
+    s: usize,
+    i: usize,
+) -> Result<(), NoMemory>
+    requires before { bytes.old.items ≡ map (image_entry code.now slots (unit_stream s i)) (range_with_len 0 (slots * code.now.r)) }
+    ensures { OnOk result (bytes.new.items ≡ image code.now slots (unit_stream s i)) }
 {
-    let parities = slots * code.r();
-    if c < parities {
-        return unit_parity(code, s, i, c / code.r(), c % code.r());
+    for u in 0..code.k() {
+        bytes.push(unit_symbol(s, i, u))?;
     }
-    if s == 0 && i == c - parities { 1 } else { 0 }
+    Ok(())
+}
+
+// Symbol `u` of block 0 where symbol `i` of slot `s` is one and all else is zero.
+fn unit_symbol(s: usize, i: usize, u: usize) -> u8
+    ensures { result ≡ unit_stream s i 0 u }
+{
+    if s == 0 && u == i { 1 } else { 0 }
 }
 
 // Parity symbol `j` of slot `t` where symbol `i` of slot `s` is one and all else is zero.
@@ -79,28 +109,39 @@ fn unit_parity(code: &ByteCode, s: usize, i: usize, t: usize, j: usize) -> u8
     code.coefficient(t - s, i, j).number()
 }
 
-// The rows, and behind them the images of the unit streams of slot `s`.
-pub(crate) fn with_units(
-    alloc: Global,
-    rows: &Matrix<Gf256>,
+// Makes the rows of `to` those of `from`, which has as many columns. It takes memory only where `to` has no room for them.
+pub(crate) fn copy_rows(to: &mut Matrix<Gf256>, from: &Matrix<Gf256>) -> Result<(), NoMemory>
+    requires { to.old.cols ≡ from.now.cols }
+    ensures { OnOk result (to.new ≡ from.now) }
+{
+    from.known();
+    to.clear();
+    for i in 0..from.rows() {
+        to.push_row(from.row(i))?;
+    }
+    Ok(())
+}
+
+// Appends the images of the unit streams of slot `s`. It takes memory only where there is no room for them.
+pub(crate) fn push_units(
+    rows: &mut Matrix<Gf256>,
     images: &Matrix<Gf256>,
     k: usize,
     s: usize,
-) -> Result<Matrix<Gf256>, NoMemory>
-    requires cols { images.now.cols ≡ rows.now.cols }
+) -> Result<(), NoMemory>
+    requires cols { images.now.cols ≡ rows.old.cols }
     requires slot { s * k + k ≤ row_count images.now }
     requires slots { s ≤ 41 }
-    requires few { row_count rows.now ≤ 2624 }
+    requires few { row_count rows.old ≤ 2624 }
     requires small { k ≤ 64 }
-    requires narrow { rows.now.cols ≤ 2688 }
-    ensures cols { IfOk result (λ m. m.cols ≡ rows.now.cols) }
-    ensures rows { IfOk result (λ m. m.rows ≡ rows.now.rows ++ map (λ p. row images.now (s * k + p)) (range_with_len 0 k)) }
+    requires narrow { rows.old.cols ≤ 2688 }
+    ensures cols { OnOk result (rows.new.cols ≡ rows.old.cols) }
+    ensures rows { OnOk result (rows.new.rows ≡ rows.old.rows ++ map (λ p. row images.now (s * k + p)) (range_with_len 0 k)) }
 {
-    let mut more = rows.copy(alloc)?;
     for p in 0..k {
-        more.push_row(images.row(s * k + p))?;
+        rows.push_row(images.row(s * k + p))?;
     }
-    Ok(more)
+    Ok(())
 }
 
 // Keeps what the rows span of vectors that are zero in the columns from `from` to `from` + `count` - 1.

@@ -230,14 +230,21 @@ impl Gate for Count {
 #[test]
 fn begins_each_part_once(rt: HostRuntime) -> Result<(), Fail> {
     let two = code_file(rt.alloc(), (4, 3, 2, 3), 2, 3, &TWO_OF_FIVE)?;
-    let classes = classes_of(&two)?;
-    for (workers, jobs) in [(1, 1), (3, 3), (4, 4), (64, 4)] {
+    let lost = code_file(rt.alloc(), (4, 3, 2, 3), 1, 1, &AGAIN)?;
+    for (file, want, workers, jobs) in [
+        (&two, None, 1, 1),
+        (&two, None, 3, 3),
+        (&two, None, 4, 4),
+        (&two, None, 64, 4),
+        (&lost, Some(0), 3, 3),
+    ] {
+        let classes = classes_of(file)?;
         let gate = Count {
             jobs: AtomicU64::new(0),
             powers: AtomicU64::new(0),
         };
-        let found = first_failing(&rt, rt.alloc(), &two.code, &classes, workers, &gate);
-        assert_eq!(rt; found, Ok(None));
+        let found = first_failing(&rt, rt.alloc(), &file.code, &classes, workers, &gate);
+        assert_eq!(rt; found, Ok(want));
         assert_eq!(rt; gate.jobs.load(Ordering::SeqCst), jobs, "{workers} workers");
         assert_eq!(rt;
             gate.powers.load(Ordering::SeqCst),

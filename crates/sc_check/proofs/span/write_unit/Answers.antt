@@ -1,9 +1,10 @@
-use Rattle.std.proofs.Common.{ℕ, ◌/◌, ◌%◌, ap₂, ◌∙◌}
-use Rattle.sc_check.specs.Span.{image_entry, unit_stream}
-use Rattle.sc_check.proofs.ClearSteps.{filled}
+use Rattle.std.proofs.Common.{◌≡◌, ℕ, ◌/◌, ◌%◌, OnOk, subst}
+use Rattle.sc_check.specs.Span.{image, unit_stream}
 use Rattle.sc_check.proofs.span.write_unit.Goals as goal
 
-pub loop-c-preserved : goal.loop-c-preserved
-loop-c-preserved c =
-    filled (image_entry c.args.code.now c.args.slots (unit_stream (c.args.n / c.args.code.now.k) (c.args.n % c.args.code.now.k))) c.loop-c.image.items c.push.new.self.items c.loop-c.c c.unit_entry.result c.in_ok-push.ensures.items c.loop-c.invariant
-    (c.unit_entry.ensures ∙ ap₂ (λ (a b : ℕ). image_entry c.args.code.now c.args.slots (unit_stream (c.args.n / a) (c.args.n % b)) c.loop-c.c) c.k-in-loop-c.ensures.number c.k-in-loop-c-2.ensures.number)
+pub returns : goal.returns
+returns c =
+    let code = c.args.code.now in
+    let n : ℕ = c.args.n in
+    subst (λ (k : ℕ). OnOk c.push_block.result (c.push_block.new.bytes.items ≡ image code c.args.slots (unit_stream (n / k) (n % code.k)))) c.k.ensures.number
+    (subst (λ (k : ℕ). OnOk c.push_block.result (c.push_block.new.bytes.items ≡ image code c.args.slots (unit_stream (n / c.k.result) (n % k)))) c.k-2.ensures.number c.push_block.ensures)

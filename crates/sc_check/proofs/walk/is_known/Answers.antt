@@ -8,8 +8,8 @@ use Rattle.sc_check.proofs.walk.is_known.Goals as goal
 pub returns : goal.returns
 returns c =
     let flags = take c.args.front.done c.args.flags.now in
-    known-span c.args.code.now (c.args.classes.now.t + 1) flags c.args.vectors.now c.are_zero_from.result c.r.ensures.limits c.known.ensures.shape (IsSet-in_range flags 0 c.requires.first_lost) c.requires.span
-    (subst (λ (n : ℕ). IsTrue c.are_zero_from.result ↔ ((k col : ℕ) → k < row_count c.args.vectors.now → n * c.args.code.now.r ≤ col → col < c.args.vectors.now.cols → entry 0 c.args.vectors.now k col ≡ 0)) c.requires.room
+    known-span c.args.walk.now.code.now (c.args.walk.now.classes.now.t + 1) flags c.args.vectors.now c.are_zero_from.result c.r.ensures.limits c.known.ensures.shape (IsSet-in_range flags 0 c.requires.first_lost) c.requires.span
+    (subst (λ (n : ℕ). IsTrue c.are_zero_from.result ↔ ((k col : ℕ) → k < row_count c.args.vectors.now → n * c.args.walk.now.code.now.r ≤ col → col < c.args.vectors.now.cols → entry 0 c.args.vectors.now k col ≡ 0)) c.requires.room
     (subst (λ (r : ℕ). IsTrue c.are_zero_from.result ↔ ((k col : ℕ) → k < row_count c.args.vectors.now → length c.args.flags.now * r ≤ col → col < c.args.vectors.now.cols → entry 0 c.args.vectors.now k col ≡ 0)) c.r.ensures.number c.are_zero_from.ensures))
 
 pub overflow_mul-flags : goal.overflow_mul-flags

@@ -4,5 +4,5 @@ use Rattle.sc_check.proofs.walk.lost_next.Goals as goal
 
 pub returns-clause-front : goal.returns-clause-front
 returns-clause-front c =
-    IsFrontOf-lost c.args.classes.now c.args.flags.now c.args.front.done c.args.front.left c.args.front.first c.args.front.ways (length c.args.flags.now - c.args.front.done) c.args.middle
+    IsFrontOf-lost c.args.walk.now.classes.now c.args.flags.now c.args.front.done c.args.front.left c.args.front.first c.args.front.ways (length c.args.flags.now - c.args.front.done) c.args.middle
     c.requires.room (ap (λ n. n - c.args.front.done) c.requires.room) c.requires.slot c.requires.set c.requires.middle c.requires.some c.requires.front

@@ -1,7 +1,0 @@
-use Rattle.std.proofs.Common.{◌≡◌, ◌+◌, ◌*◌, ◌++◌, map}
-use Rattle.std.specs.List.{range_with_len}
-use Rattle.sc_matrix.specs.Matrix.{row}
-use Rattle.sc_check.proofs.span.with_units.Given as goal
-
-abbrev pub invariant-loop-p : goal.invariant-loop-p
-invariant-loop-p l = (l.more.cols ≡ l.rows.cols) × (l.more.rows ≡ l.rows.rows ++ map (λ p. row l.images (l.s * l.k + p)) (range_with_len 0 l.p))
