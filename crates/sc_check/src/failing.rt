@@ -21,9 +21,9 @@ pub const MAX_WORKERS: u32 = 64;
 /// The least index of a class that the code doesn't decide, and `None` exactly where it decides every class. The answer is the
 /// same for every number of workers.
 ///
-/// The classes are cut into as many contiguous parts as there are workers, or classes where these are fewer. Part `i` of `p`
-/// begins at class `i * count / p`. `gate.enter(i)` is called once before part `i` begins. Parts are worked by fork and join
-/// over halves, a thread each, which share the code and the classes for reading only.
+/// Class 0 is decided first. Then the classes are cut into as many contiguous parts as there are workers, or classes where these
+/// are fewer. Part `i` of `p` begins at class `i * count / p`. `gate.enter(i)` is called once before part `i` begins, whatever
+/// class 0 is. Parts are worked by fork and join over halves, a thread each, which share the code and the classes for reading only.
 pub fn first_failing<R: Threads + Sync, G: Gate + Sync>(
     rt: &R,
     alloc: Global,

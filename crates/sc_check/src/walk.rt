@@ -21,7 +21,7 @@ use sc_matrix::Matrix;
 use sc_outside::NoMemory;
 use std::alloc::Global;
 
-/// What workers read: a code, the classes that it is checked against, and the images of the unit streams of all slots.
+// What workers read: a code, the classes that it is checked against, and the images of the unit streams of all slots.
 #[derive(Drop)]
 pub(crate) struct Walk<'a> {
     pub(crate) code: &'a ByteCode,
