@@ -15,3 +15,9 @@ pub mod AllSteps
 pub mod PassSteps
 pub mod SlotSteps
 pub mod PlaceSteps
+pub mod SentSlots
+pub mod SentBlocks
+pub mod SentStream
+pub mod SentRecords
+pub mod SentCaptures
+pub mod Restoration
