@@ -2,7 +2,7 @@
 
 ghost use Rattle.std.specs.Prelude.{◌≤◌};
 
-use super::super::laws::repairing_is_a_job;
+use super::super::laws::{protected_captures_come_back, repairing_is_a_job};
 use super::super::repairer::EndState;
 use super::*;
 use sc_channel::Channel;
@@ -105,11 +105,12 @@ fn repairs(
     given: &[u8],
 ) -> Result<(), Fail> {
     let file = delayed(alloc)?;
+    let mut due = PREAMBLE.to_vec(alloc)?;
+    due.extend_from_slice(given)?;
     for piece in [1, 7, 65_536] {
         let mut port = port_of(alloc, slots, last, 1000, piece, 100_000)?;
         assert_eq!(rt; repair_all(alloc, &file, &mut port), want);
-        assert_eq!(rt; port.given()[..44], PREAMBLE[..]);
-        assert_eq!(rt; port.given()[44..], *given);
+        assert_eq!(rt; port.given(), due.as_slice());
     }
     Ok(())
 }
@@ -346,5 +347,6 @@ fn repairs_many_slots(rt: HostRuntime) -> Result<(), Fail> {
     assert_eq!(rt; written.len(), 3_002);
     assert_eq!(rt; written[..4], [44, 20, 60, 60][..]);
     repairing_is_a_job();
+    protected_captures_come_back();
     Ok(())
 }
