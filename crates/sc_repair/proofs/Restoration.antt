@@ -70,6 +70,13 @@ map-range-split f a (suc n) d =
     let g : a + 1 + n ≡ a + suc n = omega arith in
     ap (λ n. map f (range_with_len a n)) e ∙ ap (λ l. f a ∷ l) (map-range-split f (a + 1) n d ∙ ap (λ b. map f (range_with_len (a + 1) n) ++ map f (range_with_len b d)) g)
 
+-- what the front of a loss keeps, the loss keeps
+kept-front : (v : ℕ) (loss : List Bool) (i : ℕ) → v ≤ length loss → IsKept (take v loss) i → (i < v) × IsKept loss i
+kept-front v loss i le h =
+    let within : i < length (take v loss) = IsKept-in_range (take v loss) i h in
+    let low : i < v = omega (arith, within, length-take-le v loss le) in
+    (low, sym (get_or-take v loss i true low) ∙ h)
+
 length-left : {X : Type 0} (f : ℕ → X) (flags : List Bool) (ns : List ℕ) → length (left_by flags (map f ns)) ≡ length (left_by flags ns)
 length-left f flags ns = ap length (sym (left_by-map f flags ns)) ∙ length-map (left_by flags ns) f
 
@@ -321,14 +328,14 @@ module _ (file : CodeFile) (size : ℕ) (input preamble : List ℕ) (records : L
       let long : length (take (t + file.channel.t + 1) flags) ≡ t + 1 + file.channel.t = omega (arith, length-take-le (t + file.channel.t + 1) flags (omega (arith, sent.flag_count, le, over))) in
       let there = end_arrives file.channel (take (t + file.channel.t + 1) flags) (t + 1) sent.channel.ordered (IsAdmissible-take file.channel (t + file.channel.t + 1) flags sent.admissible) long (omega arith) in
       let far : t + 1 ≤ there.0 + 1 = there.1 in
-      let within : there.0 < length (take (t + file.channel.t + 1) flags) = IsKept-in_range (take (t + file.channel.t + 1) flags) there.0 there.2 in
-      let is_kept : IsKept flags there.0 = sym (get_or-take (t + file.channel.t + 1) flags there.0 true (omega (arith, within, long))) ∙ there.2 in
-      let found = is_left.all_taken there.0 is_kept in
+      let here = kept-front (t + file.channel.t + 1) flags there.0 (omega (arith, sent.flag_count, le, over)) there.2 in
+      let within : there.0 < t + file.channel.t + 1 = here.0 in
+      let found = is_left.all_taken there.0 here.1 in
       let at : found.0.number ≡ there.0 = found.2 in
       let parts = split_at v le in
       elim (Contains-append_cases (taken_slots v) parts.0 found.0 (subst (λ (l : List (Taken ℕ)). Contains l found.0) parts.2 found.1)) [
         | inl early ↦ (let low : found.0.number < one_past (taken_slots v) = AllBelow-one_past (taken_slots v) found.0 early in omega arith)
-        | inr late ↦ (let high : v ≤ found.0.number = parts.1 found.0 late in absurd (omega (arith, within, long)))
+        | inr late ↦ (let high : v ≤ found.0.number = parts.1 found.0 late in absurd (omega arith))
       ]
 
   few_passed : (v : ℕ) → v ≤ all → one_past (taken_slots v) ≤ all

@@ -1,5 +1,5 @@
 -- The blocks of a protected capture: what of its records they hold, and what they write.
-use Rattle.std.proofs.Common.{◌≡◌, ◌≢◌, inl, inr, ℕ, zero as naught, suc, ◌+◌, ◌*◌, ◌-◌, ◌^◌, ◌<◌, ◌≤◌, nat_eq, nat_lt, Bool, true, false, cond, List, [], ◌∷◌, ◌++◌, length, get_or, replicate, refl, sym, ap, ap₂, ◌∙◌, arith}
+use Rattle.std.proofs.Common.{◌≡◌, ◌≢◌, inl, inr, ℕ, zero as naught, suc, ◌+◌, ◌*◌, ◌-◌, ◌^◌, ◌<◌, ◌≤◌, nat_eq, nat_lt, Bool, true, false, cond, List, [], ◌∷◌, ◌++◌, length, get_or, drop, replicate, refl, sym, ap, ap₂, ◌∙◌, arith}
 use Rattle.std.specs.Int.{w16, w32, to_be_bytes}
 use Rattle.std.specs.List.{AllByRecursion, concat}
 use Rattle.std.proofs.lemmas.Bool.{cases_lt, eqb-false, ltb-false}
@@ -144,12 +144,14 @@ rtp-whole es are bytes =
 
 -- ---- what a block writes
 
+replicate-behind : (m n x : ℕ) → drop m (replicate (m + n) x) ≡ replicate n x
+replicate-behind m n x = drop-replicate m (m + n) x ∙ ap (λ j. replicate j x) (let e : m + n - m ≡ n = omega arith in e)
+
 pub cut-zeros : (k m : ℕ) → cut k m (replicate (k * m) 0) ≡ zero_block k m
 cut-zeros naught m = refl
 cut-zeros (suc k) m =
-    let n : suc k * m ≡ m + k * m = omega arith in
-    let rest : suc k * m - m ≡ k * m = omega arith in
-    ap₂ (λ x xs. x ∷ xs) (take-replicate m (suc k * m) 0 (omega arith)) (ap (cut k m) (drop-replicate m (suc k * m) 0 ∙ ap (λ j. replicate j 0) rest) ∙ cut-zeros k m)
+    ap (λ j. cut (suc k) m (replicate {A = ℕ} j 0)) (let e : suc k * m ≡ m + k * m = omega arith in e)
+    ∙ ap₂ (λ x xs. x ∷ xs) (take-replicate m (m + k * m) 0 (omega arith)) (ap (cut k m) (replicate-behind m (k * m) 0) ∙ cut-zeros k m)
 
 module _ (p : Protection) where
   -- the block of a record is read as its frame

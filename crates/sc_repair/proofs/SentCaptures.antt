@@ -1,14 +1,14 @@
 -- What it means for a capture and its slots that protecting it is answered well: its RTP records can be sent.
-use Rattle.std.proofs.Common.{◌≡◌, inl, inr, ℕ, zero as naught, suc, ◌+◌, ◌*◌, ◌-◌, ◌<◌, ◌≤◌, nat_le, nat_lt, Bool, true, false, List, [], ◌∷◌, ◌++◌, length, get_or, take, replicate, Option, Some, None, refl, sym, ap, ◌∙◌, subst, arith}
+use Rattle.std.proofs.Common.{◌≡◌, inl, inr, ℕ, zero as naught, suc, ◌+◌, ◌*◌, ◌-◌, ◌<◌, ◌≤◌, nat_eq, nat_le, nat_lt, Bool, true, false, cond, List, [], ◌∷◌, ◌++◌, length, get_or, take, replicate, Option, Some, None, refl, sym, ap, ◌∙◌, subst, arith, append-nil}
 use Rattle.std.specs.Prelude.{IsOk}
-use Rattle.std.proofs.lemmas.Bool.{cases_Bool, cases_lt, leb-false, ltb-false}
+use Rattle.std.proofs.lemmas.Bool.{cases_Bool, cases_lt, eqb-true, leb-false, ltb-false}
 use Rattle.std.proofs.lemmas.Grind.{div_ceil_times}
 use Rattle.std.proofs.lemmas.List.{length-append, length_push, length-replicate, take_all, take_more}
 use Rattle.sc_rtpdump.specs.declared.kind.Kind.TheVariants.{Rtp}
-use Rattle.sc_rtpdump.specs.Record.{Record, empty_record, Front, ends, front_of}
-use Rattle.sc_rtpdump.specs.Capture.{IsCapture, AreBytes, Reading}
+use Rattle.sc_rtpdump.specs.Record.{Record, empty_record, short_head, short_length, cut_body, Front, ends, breaks, starts, front_of}
+use Rattle.sc_rtpdump.specs.Capture.{IsCapture, AreBytes, Parts, Reading, no_preamble, reads, reading_of, IsReading, records_bytes}
 use Rattle.sc_rtpdump.proofs.CaptureLaws.{front_of-end}
-use Rattle.sc_rtpdump.proofs.ReadingLaws.{reading_of-capture}
+use Rattle.sc_rtpdump.proofs.ReadingLaws.{reading_of-capture, reading_of-sound}
 use Rattle.sc_code.specs.declared.code.CodeFile.{CodeFile}
 use Rattle.sc_slots.specs.declared.protect.ProtectFault.{ProtectFault}
 use Rattle.sc_slots.specs.Frame.{width_of, frame_bytes}
@@ -49,6 +49,56 @@ accepted : (file : CodeFile) (size : ℕ) (input preamble : List ℕ) (records :
     → IsAccepted (protection_of file size) preamble records ((protecting file size).whole input).text
 accepted file size input preamble records c ok =
     accepted_within (protection_of file size) input preamble records (nat_lt 65527 (packet_len (protection_of file size))) refl c ok
+
+-- an input that isn't refused is a capture
+
+never_ends : (z a b c : Bool) (e : Record) (rest : List ℕ) → cond z ends (cond a (breaks short_head) (cond b (breaks short_length) (cond c (breaks cut_body) (starts e rest)))) ≡ ends → z ≡ true
+never_ends true a b c e rest h = refl
+never_ends false true b c e rest h = absurd (cc)
+never_ends false false true c e rest h = absurd (cc)
+never_ends false false false true e rest h = absurd (cc)
+never_ends false false false false e rest h = absurd (cc)
+
+nothing_left : (bytes : List ℕ) → front_of bytes ≡ ends → bytes ≡ []
+unfolding front_of
+nothing_left bytes h =
+    let none : length bytes ≡ 0 = eqb-true (length bytes) 0 (never_ends (nat_eq (length bytes) 0) _ _ _ _ _ h) in
+    empty bytes none
+  where
+    empty : (bytes : List ℕ) → length bytes ≡ 0 → bytes ≡ []
+    empty [] e = refl
+    empty (x ∷ bytes) e = absurd (omega arith)
+
+capture_behind : (p : Protection) (input preamble : List ℕ) (parts : Parts) (front : Front) → front_of parts.tail ≡ front → IsReading input preamble parts
+    → IsOk (due_behind p preamble parts.records front).answer → IsCapture input preamble parts.records
+capture_behind p input preamble parts (breaks break) is h ok = absurd (cc)
+capture_behind p input preamble parts (starts e rest) is h ok = absurd (h.ended e rest is)
+capture_behind p input preamble parts ends is h ok =
+    record {
+      preamble_is = h.preamble_is;
+      records_are = h.records_are;
+      parts = h.spelled ∙ ap (λ (l : List ℕ). preamble ++ (records_bytes parts.records ++ l)) (nothing_left parts.tail is) ∙ ap (λ l. preamble ++ l) (append-nil (records_bytes parts.records));
+    }
+
+capture_parts : (p : Protection) (input preamble : List ℕ) (parts : Parts) (o : Option (ℕ × ProtectFault)) → IsReading input preamble parts → IsOk (due_by p preamble parts o).answer
+    → IsCapture input preamble parts.records
+capture_parts p input preamble parts (Some first) h ok = absurd (cc)
+capture_parts p input preamble parts None h ok = capture_behind p input preamble parts (front_of parts.tail) refl h ok
+
+capture_read : (p : Protection) (input : List ℕ) (r : Reading) → reading_of input ≡ r → AreBytes input → IsOk (due_of p r).answer
+    → (preamble : List ℕ) × (records : List Record) × IsCapture input preamble records
+capture_read p input no_preamble is are ok = absurd (cc)
+capture_read p input (reads preamble parts) is are ok =
+    (preamble, parts.records, capture_parts p input preamble parts (first_refused p parts.records) (reading_of-sound input preamble parts are is) ok)
+
+capture_within : (p : Protection) (input : List ℕ) (wide : Bool) → AreBytes input → IsOk ((protecting_within wide p).whole input).answer
+    → (preamble : List ℕ) × (records : List Record) × IsCapture input preamble records
+capture_within p input true are ok = absurd (cc)
+capture_within p input false are ok = capture_read p input (reading_of input) refl are ok
+
+pub protected-capture_there : (file : CodeFile) (size : ℕ) (input : List ℕ) → AreBytes input → IsOk ((protecting file size).whole input).answer
+    → (preamble : List ℕ) × (records : List Record) × IsCapture input preamble records
+protected-capture_there file size input are ok = capture_within (protection_of file size) input (nat_lt 65527 (packet_len (protection_of file size))) are ok
 
 -- ---- the width
 

@@ -33,6 +33,11 @@ pub record IsSentThrough (file : CodeFile) (size : ℕ) (input preamble : List �
   pub admissible : IsAdmissible file.channel flags
   pub flag_count : length flags ≡ length (rtp_part records) + file.channel.t
 
+-- An input of bytes that protecting doesn't refuse is a capture, so the premise says no more of it than that.
+abbrev pub ProtectedIsCapture : Type 0
+ProtectedIsCapture = (file : CodeFile) (size : ℕ) (input : List ℕ) → AreBytes input → IsOk ((protecting file size).whole input).answer
+    → (preamble : List ℕ) × (records : List Record) × IsCapture input preamble records
+
 -- the records of all slots, in order
 abbrev pub sent_records : CodeFile → ℕ → List Record → List Record
 sent_records file size records = slot_records (protection_of file size) (rtp_part records)

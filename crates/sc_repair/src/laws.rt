@@ -4,7 +4,7 @@ ghost use Rattle.sc_outside.specs.Ends.{IsJob};
 ghost use Rattle.sc_code.specs.declared.code.CodeFile.{CodeFile as CodeFileOf};
 ghost use Rattle.sc_repair.specs.Repairing.{repairing};
 ghost use Rattle.sc_repair.specs.RepairLaws.{IsOfInput};
-ghost use Rattle.sc_repair.specs.Restoration.{ArrivedIsThinned, RtpPartComesBack, RecordsComeInTime, FirstSlotsComeFirst, PromptRunsAreTimely};
+ghost use Rattle.sc_repair.specs.Restoration.{ProtectedIsCapture, ArrivedIsThinned, RtpPartComesBack, RecordsComeInTime, FirstSlotsComeFirst, PromptRunsAreTimely};
 
 /// What repairing gives grows with what it has read: what is due for some bytes is a prefix of what is due for all that go
 /// on with them, and so is the preamble. What the input decides is none of the answers of the outside. It does nothing; its
@@ -19,6 +19,7 @@ pub fn repairing_is_a_job()
 /// record comes in time: that of slot `t` is due before a byte is read of the first record with a slot number above `t` plus
 /// the deadline, so a run that is prompt has written it by then. It does nothing; its contract is the law.
 pub fn protected_captures_come_back()
+    ensures capture { ProtectedIsCapture }
     ensures arrived { ArrivedIsThinned }
     ensures restored { RtpPartComesBack }
     ensures timely { RecordsComeInTime }
