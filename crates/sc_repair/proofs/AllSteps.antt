@@ -1,5 +1,5 @@
 -- The steps of putting out: one value after the other.
-use Rattle.std.proofs.Common.{◌≡◌, ℕ, Bool, true, false, ◌+◌, ◌≤◌, Some, None, List, [], ◌++◌, length, take, Option, Result, Ok, Err, refl, sym, ap, ◌∙◌, subst, arith, append-nil, append_assoc}
+use Rattle.std.proofs.Common.{◌≡◌, ℕ, Bool, true, false, ◌≤◌, List, [], ◌++◌, length, take, Option, Result, Ok, Err, sym, ap, ◌∙◌, subst, arith, append-nil, append_assoc}
 use Rattle.sc_outside.specs.declared.error.Failed.{Failed}
 use Rattle.sc_outside.specs.Port.{Told}
 use Rattle.sc_outside.proofs.FaultsLaws.{Rose-earlier}
@@ -10,7 +10,6 @@ use Rattle.sc_slots.proofs.FlushSteps.{GivesMore-none}
 use Rattle.sc_repair.specs.declared.put.Next.{Next}
 use Rattle.sc_repair.specs.declared.put.Next.TheVariants.{Ended, More, Bad}
 use Rattle.sc_repair.specs.Repairer.{Repairer}
-use Rattle.sc_repair.specs.Repairing.{values_text}
 use Rattle.sc_repair.specs.Stands.{Stands}
 use Rattle.sc_repair.specs.Steps.{Done, PutsTo, PutsAll, Halts, LosesTo, NextGives, values_by, values_when, end_of}
 use Rattle.sc_repair.specs.Values.{put_values, outcomes}
@@ -91,7 +90,7 @@ same_values s l taken same = ap (λ b. values_when b l taken) (ap (λ (r : Repai
 pub turn_after : (s l : Repairer) (taken : List (Taken ℕ)) (n' missed missed' : ℕ) (a b c : Told) (before mid after text : List ℕ) (result : Result Next Failed) → l ≡ record s { next = l.next; block = l.block } → Stands l taken
     → PutsTo (values_by s taken) (end_of s taken) l.next a b before mid missed text
     → ((text' : List ℕ) → Stands l taken → l.next ≤ length (values_by l taken) → Done (take l.next (values_by l taken)) (end_of l taken) missed text'
-        → NextGives (values_by l taken) (end_of l taken) n' b c mid after missed' text' result)
+    → NextGives (values_by l taken) (end_of l taken) n' b c mid after missed' text' result)
     → NextGives (values_by s taken) (end_of s taken) n' a c before after missed' text result
 turn_after s l taken n' missed missed' a b c before mid after text result same st x go =
     let values : values_by l taken ≡ values_by s taken = same_values s l taken same in

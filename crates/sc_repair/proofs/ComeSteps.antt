@@ -1,23 +1,22 @@
 -- The steps of repairing: the first slot starts the repairer, and each record is what it is read as.
-use Rattle.std.proofs.Common.{◌≡◌, ◌⊎◌, ℕ, ◌+◌, ◌-◌, ◌*◌, ◌<◌, ◌≤◌, Bool, true, false, Some, None, List, [], ◌∷◌, ◌++◌, length, count_by, Option, Result, Ok, Err, if◌then◌else◌, nat_lt, refl, sym, ap, ◌∙◌, subst, arith, inl, inr, append-nil, length-append}
-use Rattle.sc_outside.specs.declared.error.Failed.{Failed}
+use Rattle.std.proofs.Common.{◌≡◌, ◌⊎◌, ℕ, ◌+◌, ◌<◌, ◌≤◌, Bool, false, Some, None, List, [], ◌∷◌, length, Option, Result, Ok, Err, if◌then◌else◌, nat_lt, refl, sym, ap, ◌∙◌, subst, arith, inl, inr, append-nil, length-append}
 use Rattle.std.proofs.lemmas.Bool.{le-leb}
 use Rattle.sc_slots.proofs.FlushSteps.{GivesMore-none}
 use Rattle.sc_outside.specs.Port.{Told}
 use Rattle.sc_code.specs.declared.code.CodeFile.{CodeFile}
 use Rattle.sc_slots.specs.ProtectSteps.{GivesMore}
 use Rattle.sc_slots.specs.Slot.{Slot}
-use Rattle.sc_slots.specs.Taken.{Taken, one_past, known_end}
+use Rattle.sc_slots.specs.Taken.{one_past}
 use Rattle.sc_repair.specs.declared.repair.Counts.{Counts}
 use Rattle.sc_repair.specs.declared.repair.RepairEnd.{RepairEnd}
 use Rattle.sc_repair.specs.declared.repair.RepairEnd.TheVariants.{Dump, TooManyRecords, WrongCode, BadShape, TooManySlots, Unfit, Clash, BadBlock, Write, Memory}
 use Rattle.sc_repair.specs.Repairer.{Repairer}
-use Rattle.sc_repair.specs.Repairing.{Refusal, values_text, width_in, taken_of, values_of, still, refusal_by, misfit, slot_refusal}
+use Rattle.sc_repair.specs.Repairing.{Refusal, values_text, taken_of, values_of, still, refusal_by, misfit, slot_refusal}
 use Rattle.sc_repair.specs.Stands.{Stands}
 use Rattle.sc_repair.specs.Steps.{Done}
-use Rattle.sc_repair.specs.RepairSteps.{IsSet, IsReady, values_now, IsRefused, due_text, FallsShort, Rests, GetsRest, PlaceGives, PlaceCounts, IsGoing, Keeps, Resumes, ComesIn, CountsSlot, ComesCounts}
+use Rattle.sc_repair.specs.RepairSteps.{IsSet, values_now, IsRefused, Rests, PlaceGives, PlaceCounts, IsGoing, Keeps, Resumes, ComesIn, CountsSlot, ComesCounts}
 use Rattle.sc_repair.specs.Values.{put_values}
-use Rattle.sc_repair.proofs.PlaceSteps.{none_put, first_width, values_rest}
+use Rattle.sc_repair.proofs.PlaceSteps.{none_put, first_width}
 
 -- ---- the repairer that goes on
 
@@ -132,6 +131,7 @@ module _ (file : CodeFile) (kept : Option Repairer) (counts counts' : Counts) (s
       more_repeats : ((one.number < s.passed) × (counts'.repeats ≡ counts.repeats + 1)) ⊎ ((s.passed ≤ one.number) × (counts'.repeats ≡ counts.repeats)) → counts'.repeats ≤ counts.repeats + 1
       more_repeats (inl x) = omega (arith, x.1)
       more_repeats (inr x) = omega (arith, x.1)
+
       by_past : (slots : List Slot) → s.passed ≡ one_past (taken_of file slots) → ((one.number < s.passed) × (counts'.repeats ≡ counts.repeats + 1)) ⊎ ((s.passed ≤ one.number) × (counts'.repeats ≡ counts.repeats)) → CountsSlot file one slots counts counts'
       by_past slots e (inl x) = inl (omega (arith, x.0, e), x.1)
       by_past slots e (inr x) = inr (omega (arith, x.0, e), x.1)

@@ -1,20 +1,19 @@
 -- The steps of repairing: the last slots, once the input is at its end.
-use Rattle.std.proofs.Common.{◌≡◌, ℕ, zero as naught, suc, ◌+◌, ◌-◌, ◌*◌, ◌<◌, ◌≤◌, Bool, true, false, Some, None, List, [], ◌∷◌, ◌++◌, length, take, get_or, position, count_by, is_none, Option, Result, Ok, Err, refl, sym, ap, ◌∙◌, subst, arith, inl, inr, append-nil, append_assoc, length-append, take_at}
+use Rattle.std.proofs.Common.{◌≡◌, ℕ, zero as naught, suc, ◌+◌, ◌-◌, ◌<◌, ◌≤◌, true, false, Some, None, List, [], ◌++◌, length, take, get_or, count_by, is_none, Option, Ok, Err, refl, sym, ap, ◌∙◌, subst, arith, inl, inr, append-nil, append_assoc, length-append, take_at}
 use Rattle.std.proofs.lemmas.Bool.{cases_lt}
 use Rattle.std.proofs.lemmas.List.{take_all, nil_from_length}
 use Rattle.sc_outside.proofs.MovesLaws.{Moves-none}
 use Rattle.std.proofs.lemmas.List.Sums.{count_by_more_no}
 use Rattle.sc_field.specs.Gf256.{gf256_product}
-use Rattle.sc_outside.specs.declared.error.Failed.{Failed}
 use Rattle.sc_outside.specs.Ends.{IsPrefix, IsProperPrefix}
 use Rattle.sc_outside.specs.Faults.{Rose}
 use Rattle.sc_outside.specs.Pending.{FlushFailed}
-use Rattle.sc_outside.specs.Port.{Told, Moves, Puts}
+use Rattle.sc_outside.specs.Port.{Told, Moves}
 use Rattle.sc_outside.specs.Whole.{PutsAll as PutsWhole}
 use Rattle.sc_code.specs.declared.code.CodeFile.{CodeFile}
 use Rattle.sc_rtpdump.specs.Record.{Record}
 use Rattle.sc_slots.specs.ProtectSteps.{GivesMore, LosesMore}
-use Rattle.sc_slots.specs.Repair.{HasNoClash, IsMissed, IsSettled}
+use Rattle.sc_slots.specs.Repair.{HasNoClash, IsSettled}
 use Rattle.sc_slots.specs.Slot.{Slot}
 use Rattle.sc_slots.specs.Taken.{Taken, one_past, known_end}
 use Rattle.sc_slots.proofs.EndLaws.{AllBelow-one_past, known_end-le}
@@ -24,10 +23,9 @@ use Rattle.sc_repair.specs.declared.repair.RepairEnd.{RepairEnd}
 use Rattle.sc_repair.specs.declared.repair.RepairEnd.TheVariants.{Dump, TooManyRecords, WrongCode, BadShape, TooManySlots, Unfit, Clash, BadBlock, Write, Memory}
 use Rattle.sc_repair.specs.declared.repair.Repaired.{Repaired}
 use Rattle.sc_repair.specs.Repairer.{Repairer}
-use Rattle.sc_repair.specs.Repairing.{Refusal, values_text, is_bad_value, width_in, slots_in, taken_of, values_so_far, bad_among, last_values, missed_of, numbers}
-use Rattle.sc_repair.specs.Stands.{Stands}
-use Rattle.sc_repair.specs.Steps.{Done, PutsAll, Halts, LosesTo, AllGives, values_by, end_of}
-use Rattle.sc_repair.specs.RepairSteps.{IsSet, IsReady, values_now, due_text, Rests, IsGoing, IsFewOf, Keeps, Knows, GivesLeft, RefusesLeft, LosesLeft, LeftGives, GivesLast, RefusesLast, LosesLast, LastGives}
+use Rattle.sc_repair.specs.Repairing.{values_text, width_in, slots_in, taken_of, values_so_far, bad_among, last_values, missed_of}
+use Rattle.sc_repair.specs.Steps.{Done, LosesTo, AllGives, values_by, end_of}
+use Rattle.sc_repair.specs.RepairSteps.{IsSet, values_now, due_text, Rests, IsGoing, IsFewOf, Knows, GivesLeft, RefusesLeft, LosesLeft, LeftGives, GivesLast, LastGives}
 use Rattle.sc_repair.specs.Values.{value_at, put_values, outcomes}
 use Rattle.sc_repair.proofs.ValueLaws.{value_at-settled, put_values-le, put_values-at, outcomes-length, outcomes-take, outcomes-begin}
 use Rattle.sc_repair.proofs.Growth.{bad_among-lacks}
@@ -73,11 +71,10 @@ module _ (file : CodeFile) (slots : List Slot) (s : Repairer) (missed : ℕ) (te
   missed_below : (i : ℕ) → known_end (taken_of file slots) ≤ i → i < length (values_now s (taken_of file slots)) → is_none (get_or (values_now s (taken_of file slots)) i None) ≡ false
   missed_below i le lt =
       not_none (get_or (values_now s taken) i None) (λ none.
-          let at : value_at s.k s.m s.deadline (taken_of file slots) s.passed i ≡ Some None = put_values-at s.k s.m s.deadline taken s.passed i lt ∙ ap Some none in
-          let within : i < s.passed = omega (arith, lt, put_values-le s.k s.m s.deadline taken s.passed) in
-          let gone : IsSettled 0 gf256_product s.k s.m s.deadline (taken_of file slots) s.passed i None = value_at-settled s.k s.m s.deadline taken s.passed i None rests.ready.stands.history.no_clash within at in
-          absurd (omega (arith, gone.is_over, rests.passed, rests.claim_near, set.deadline, le)))
-
+      let at : value_at s.k s.m s.deadline (taken_of file slots) s.passed i ≡ Some None = put_values-at s.k s.m s.deadline taken s.passed i lt ∙ ap Some none in
+      let within : i < s.passed = omega (arith, lt, put_values-le s.k s.m s.deadline taken s.passed) in
+      let gone : IsSettled 0 gf256_product s.k s.m s.deadline (taken_of file slots) s.passed i None = value_at-settled s.k s.m s.deadline taken s.passed i None rests.ready.stands.history.no_clash within at in
+      absurd (omega (arith, gone.is_over, rests.passed, rests.claim_near, set.deadline, le)))
 
   -- what is left begins with what was put out
   pub left_begins : (s' : Repairer) → s' ≡ record s { finished = true } → width_in slots ≡ s.m
@@ -95,8 +92,7 @@ module _ (file : CodeFile) (slots : List Slot) (s : Repairer) (missed : ℕ) (te
       let d = rests.ready.done in
       let count : count_by is_none (take 4000000 (values_now s (taken_of file slots))) ≡ count_by is_none (take (known_end (taken_of file slots)) (values_now s (taken_of file slots))) =
       all_counted (values_now s taken) s.passed 4000000 (known_end taken) size limit
-      ∙ counted_below (values_now s taken) (known_end taken) (length (values_now s taken)) missed_below in
-      (
+      ∙ counted_below (values_now s taken) (known_end taken) (length (values_now s taken)) missed_below in (
         by ∙ ap (λ k. outcomes k s.m s.deadline taken (one_past taken)) set.k ∙ ap (λ m. outcomes file.code.k m s.deadline taken (one_past taken)) (sym width) ∙ ap (λ d. outcomes file.code.k (width_in slots) d taken (one_past taken)) set.deadline,
         end,
         longer s'.next (length (values_now s taken)) (length begin.0) (length (values_by s' taken)) next (ap length (by ∙ whole) ∙ length-append (values_now s taken) begin.0),

@@ -18,3 +18,9 @@ pub mod PlaceSteps
 pub mod ComeSteps
 pub mod ReadSteps
 pub mod LastSteps
+pub mod SentSlots
+pub mod SentBlocks
+pub mod SentStream
+pub mod SentRecords
+pub mod SentCaptures
+pub mod Restoration

@@ -1,5 +1,5 @@
 -- The steps of putting out: the next slot, while the input goes on and at its end.
-use Rattle.std.proofs.Common.{◌≡◌, ℕ, ◌+◌, ◌-◌, ◌*◌, ◌<◌, ◌≤◌, Bool, true, false, List, [], ◌∷◌, ◌++◌, length, take, get_or, position, Option, Some, None, Ok, Err, refl, sym, ap, ◌∙◌, subst, arith, inl, inr, append-nil}
+use Rattle.std.proofs.Common.{◌≡◌, ℕ, ◌+◌, ◌-◌, ◌*◌, ◌<◌, ◌≤◌, Bool, true, false, List, [], ◌++◌, length, take, get_or, position, Option, Some, None, Ok, Err, refl, sym, ap, ◌∙◌, subst, arith, inl, inr, append-nil}
 use Rattle.std.specs.List.{concat}
 use Rattle.std.proofs.lemmas.Bool.{cases_Bool, cases_lt}
 use Rattle.std.proofs.lemmas.List.{length-take, take_all}
@@ -15,7 +15,7 @@ use Rattle.sc_slots.proofs.FlushSteps.{GivesMore-none}
 use Rattle.sc_slots.proofs.MakerSteps.{concat-cut}
 use Rattle.sc_repair.specs.declared.repairer.Put.TheVariants.{Block, Missed}
 use Rattle.sc_repair.specs.Readings.{block_reading, block_text, frame_text, is_bad, is_bad_block}
-use Rattle.sc_repair.specs.Repairer.{Repairer, IsSound}
+use Rattle.sc_repair.specs.Repairer.{Repairer}
 use Rattle.sc_repair.specs.Repairing.{values_text, is_bad_value}
 use Rattle.sc_repair.specs.Stands.{Stands, IsNext, IsLeft, ArePassedOver, OutCounts}
 use Rattle.sc_repair.specs.Steps.{PutsBlock, Done, PutsTo, PutsAll, Halts, LosesTo, values_by, values_when, end_of, end_when}
@@ -159,8 +159,8 @@ module _ (s s' : Repairer) (taken : List (Taken ℕ)) (st : Stands s taken) wher
       elim (cases_Bool s.finished) [
         | inl over ↦ (let h = left over in rw over (Comes-lost s taken t s'.block (known_end-le taken) h, h.1))
         | inr on ↦ (let h = next on in
-        let lt : s.next < s.passed = omega (arith, h.1.is_over) in
-        rw (on, h.0) (Comes-settled s taken 4000000 None st on lt h.1, omega (arith, lt, few)))
+            let lt : s.next < s.passed = omega (arith, h.1.is_over) in
+            rw (on, h.0) (Comes-settled s taken 4000000 None st on lt h.1, omega (arith, lt, few)))
       ]
 
   ended : (missed : ℕ) (text : List ℕ) → (s.finished ≡ false → (x : Option (List (List ℕ))) → IsSettled 0 gf256_product s.k s.m s.deadline taken s.passed s.next x → ⊥)

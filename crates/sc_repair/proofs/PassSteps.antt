@@ -1,31 +1,23 @@
 -- The steps of repairing: passing lost slots, and taking a slot that fits behind them.
-use Rattle.std.proofs.Common.{◌≡◌, ℕ, ◌+◌, ◌*◌, ◌<◌, ◌≤◌, Bool, true, false, cond, Some, None, List, [], ◌∷◌, ◌++◌, length, take, position, Option, option_map, Result, Ok, Err, if◌then◌else◌, refl, sym, ap, ◌∙◌, subst, arith, append_assoc, take_at, append-nil, Contains}
+use Rattle.std.proofs.Common.{◌≡◌, ℕ, ◌+◌, ◌<◌, ◌≤◌, false, None, List, [], ◌++◌, length, take, position, Option, option_map, Ok, refl, sym, ap, ◌∙◌, subst, arith, append_assoc, take_at, append-nil, Contains}
 use Rattle.std.proofs.lemmas.List.{take-append-le, length-append}
 use Rattle.std.proofs.lemmas.List.Quantifiers.{position-Some}
 use Rattle.sc_field.specs.Gf256.{gf256_product}
-use Rattle.sc_outside.specs.declared.error.Failed.{Failed}
 use Rattle.sc_outside.specs.Port.{Told}
-use Rattle.sc_outside.specs.Ends.{IsPrefix}
-use Rattle.sc_code.specs.declared.code.CodeFile.{CodeFile}
 use Rattle.sc_code.specs.FirstBytes.{first_there}
 use Rattle.sc_slots.specs.ProtectSteps.{GivesMore}
 use Rattle.sc_slots.specs.Taken.{Taken, AllBelow}
-use Rattle.sc_slots.specs.Repair.{IsConsistent, HasNoClash, IsClash}
-use Rattle.sc_slots.proofs.FitLaws.{AllFrom-one}
+use Rattle.sc_slots.specs.Repair.{HasNoClash}
 use Rattle.sc_slots.proofs.FlushSteps.{GivesMore-none}
-use Rattle.sc_slots.proofs.SettledLaws.{HasNoClash-iff_consistent, HasNoClash-later, IsConsistent-longer}
-use Rattle.std.proofs.lemmas.List.Elements.{Contains-append_right}
-use Rattle.sc_repair.specs.declared.repair.RepairEnd.{RepairEnd}
-use Rattle.sc_repair.specs.declared.repair.RepairEnd.TheVariants.{Clash, BadBlock}
+use Rattle.sc_slots.proofs.SettledLaws.{HasNoClash-iff_consistent, IsConsistent-longer}
 use Rattle.sc_repair.specs.Repairer.{Repairer}
-use Rattle.sc_repair.specs.Repairing.{Refusal, first_of, values_text, is_bad_value, bad_among, put_of, stop_by}
+use Rattle.sc_repair.specs.Repairing.{values_text, is_bad_value}
 use Rattle.sc_repair.specs.Stands.{Stands}
-use Rattle.sc_repair.specs.Steps.{Done, PutsAll, Halts, LosesTo, AllGives, AllCounts, values_by, end_of}
-use Rattle.sc_repair.specs.RepairSteps.{IsSet, IsReady, GetsReady, values_now, IsRefused, due_text, FallsShort, SlotGives}
-use Rattle.sc_repair.specs.Values.{is_consistent, put_values}
-use Rattle.sc_repair.proofs.ValueLaws.{is_consistent-true, is_consistent-there, is_consistent-lacks, put_values-grow, put_values-later}
-use Rattle.sc_repair.proofs.Growth.{position-append, values_text-append, bad_among-lacks, bad_among-front}
-use Rattle.sc_repair.proofs.PutSteps.{bad_at, due-front}
+use Rattle.sc_repair.specs.Steps.{Done, PutsAll, Halts, LosesTo, AllCounts, values_by, end_of}
+use Rattle.sc_repair.specs.RepairSteps.{IsReady, GetsReady, values_now}
+use Rattle.sc_repair.specs.Values.{put_values}
+use Rattle.sc_repair.proofs.ValueLaws.{put_values-grow, put_values-later}
+use Rattle.sc_repair.proofs.Growth.{position-append}
 use Rattle.sc_repair.proofs.AllSteps.{GivesMore-trans, Halts-after, LosesTo-after}
 
 -- ---- values, and more behind them
@@ -80,8 +72,7 @@ module _ (s s' : Repairer) (taken more : List (Taken ℕ)) (missed : ℕ) (text 
       ∙ ap (λ d. put_values s.k s.m d all s'.passed) ed ∙ grown.1 ∙ ap (λ l. l ++ grown.0) same in
       let size : s'.next ≡ length (values_now s taken) = en ∙ r.next in
       let by : values_by s' (taken ++ more) ≡ values_now s taken ++ grown.0 = rw on values in
-      let end : end_of s' (taken ++ more) ≡ 4000000 = rw on refl in
-      (
+      let end : end_of s' (taken ++ more) ≡ 4000000 = rw on refl in (
         grown.0,
         by,
         omega (arith, size, ap length by, length-append (values_now s taken) grown.0),
@@ -143,8 +134,7 @@ module _ (s l p : Repairer) (taken : List (Taken ℕ)) (number missed : ℕ) (te
   passed_front le =
       let clear = clear_later p.k p.m taken p.passed number st.history.below le st.history.no_clash in
       let grown = put_values-grow p.k p.m p.deadline taken p.passed number le clear in
-      let by : values_by p taken ≡ put_values p.k p.m p.deadline taken p.passed = rw go_on refl in
-      (
+      let by : values_by p taken ≡ put_values p.k p.m p.deadline taken p.passed = rw go_on refl in (
         grown.0,
         ap (λ (x : Repairer). put_values x.k x.m x.deadline taken number) (sym goes) ∙ ap (λ (x : Repairer). put_values x.k x.m x.deadline taken number) (sym one) ∙ grown.1
             ∙ ap (λ v. v ++ grown.0) (sym by),

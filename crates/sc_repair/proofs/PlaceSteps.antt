@@ -1,5 +1,5 @@
 -- The steps of repairing: a slot that repeats, doesn't fit, or is taken.
-use Rattle.std.proofs.Common.{◌≡◌, ◌≢◌, ◌⊎◌, ℕ, ◌+◌, ◌-◌, ◌*◌, ◌<◌, ◌≤◌, Bool, true, false, cond, nat_eq, nat_lt, nat_le, not, Some, None, List, [], ◌∷◌, ◌++◌, length, Option, Result, Ok, Err, if◌then◌else◌, refl, sym, ap, ◌∙◌, subst, arith, inl, inr, append-nil}
+use Rattle.std.proofs.Common.{◌≡◌, ◌⊎◌, ℕ, ◌+◌, ◌-◌, ◌<◌, ◌≤◌, Bool, true, false, nat_eq, nat_lt, nat_le, Some, None, List, [], ◌∷◌, ◌++◌, Option, Result, Ok, Err, if◌then◌else◌, refl, sym, ap, ◌∙◌, subst, arith, inl, inr, append-nil}
 use Rattle.std.proofs.lemmas.Bool.{cases_lt, cond-true, lt-ltb, le-ltb, le-leb, lt-leb, eq-eqb, ne_eqb, ltb-true, eqb-true, leb-true, and_parts, false_from_ne_true}
 use Rattle.std.proofs.lemmas.List.{nil_from_length}
 use Rattle.sc_outside.specs.declared.error.Failed.{Failed}
@@ -17,11 +17,11 @@ use Rattle.sc_repair.specs.Fit.{FitGives, end_so_far}
 use Rattle.sc_repair.specs.Repairer.{Repairer, FitsEnd}
 use Rattle.sc_repair.specs.Repairing.{Refusal, values_text, width_in, taken_of, put_of, values_of, still, end_fits, end_by, misfit, stop_by, refusal_by, slot_refusal}
 use Rattle.sc_repair.specs.Stands.{Stands, HasEnd}
-use Rattle.sc_repair.specs.RepairSteps.{IsSet, IsReady, values_now, GetsReady, IsRefused, due_text, FallsShort, SlotGives, SlotCounts, Rests, GetsRest, PlaceGives}
+use Rattle.sc_repair.specs.RepairSteps.{IsSet, IsReady, values_now, IsRefused, due_text, FallsShort, SlotGives, SlotCounts, Rests, GetsRest, PlaceGives}
 use Rattle.sc_repair.specs.Values.{put_values}
 use Rattle.sc_repair.proofs.ValueLaws.{put_values-le}
 use Rattle.sc_repair.proofs.Growth.{taken_of-push, taken_of-repeat}
-use Rattle.sc_repair.proofs.StandsSteps.{end_after_source, end_after_claim}
+use Rattle.sc_repair.proofs.StandsSteps.{end_after_claim}
 
 -- ---- ends
 
@@ -46,8 +46,8 @@ fits_back false end number own taken h f =
     elim (cases_lt 0 own) [
       | inr zero ↦ inl (omega (arith, zero))
       | inl some ↦ (let not_zero : nat_eq own 0 ≡ false = ne_eqb own 0 (λ e. (let z : own ≡ 0 = e in absurd (omega (arith, some)))) in
-      let le : nat_le (least_end taken) (number + 1 - own) ≡ true = sym (ap (λ (b : Bool). if b then true else nat_le (least_end taken) (number + 1 - own)) not_zero) ∙ g in
-      inr (some, omega (arith, leb-true (least_end taken) (number + 1 - own) le, h.1)))
+          let le : nat_le (least_end taken) (number + 1 - own) ≡ true = sym (ap (λ (b : Bool). if b then true else nat_le (least_end taken) (number + 1 - own)) not_zero) ∙ g in
+          inr (some, omega (arith, leb-true (least_end taken) (number + 1 - own) le, h.1)))
     ]
 
 unfits_by : (is_claimed : Bool) (end number own : ℕ) (taken : List (Taken ℕ)) → HasEnd is_claimed end taken → (FitsEnd is_claimed end number own → ⊥) → end_fits (claimed taken) (least_end taken) number own ≡ false
@@ -128,8 +128,7 @@ module _ (file : CodeFile) (slots : List Slot) (s : Repairer) (one : Slot) (miss
   pub repeat_gives : (a : Told) (before : List ℕ) → one.number < 4000000 → one.number < s.passed → (slot_refusal file slots one ≡ None) × GetsRest file a a before before (slots ++ one ∷ []) s missed text
   repeat_gives a before lt again =
       let past : one.number < one_past (taken_of file slots) = omega (arith, again, rests.passed) in
-      let same : taken_of file slots ≡ taken_of file (slots ++ one ∷ []) = sym (taken_of-repeat file slots one past) in
-      (
+      let same : taken_of file slots ≡ taken_of file (slots ++ one ∷ []) = sym (taken_of-repeat file slots one past) in (
         within_is lt ∙ ap (λ (b : Bool). if b then None else refusal_by file slots one (misfit file slots one)) (lt-ltb one.number (one_past taken) past),
         record {
           more = [];

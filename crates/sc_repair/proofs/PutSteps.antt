@@ -1,11 +1,9 @@
 -- The steps of putting out: what has been written of the values so far, and what one value more writes.
-use Rattle.std.proofs.Common.{◌≡◌, ℕ, zero as naught, suc, ◌+◌, ◌-◌, ◌*◌, ◌<◌, ◌≤◌, Bool, true, false, cond, List, [], ◌∷◌, ◌++◌, length, take, drop, get_or, position, count_by, is_none, Option, Some, None, option_map, refl, sym, ap, ◌∙◌, subst, arith, inl, inr, append-nil, append_assoc, length-append}
-use Rattle.std.specs.List.{concat}
+use Rattle.std.proofs.Common.{◌≡◌, ℕ, zero as naught, suc, ◌+◌, ◌<◌, ◌≤◌, true, false, cond, List, [], ◌∷◌, ◌++◌, length, take, drop, get_or, position, count_by, is_none, Option, Some, None, option_map, refl, sym, ap, ◌∙◌, arith, inl, inr, append-nil, append_assoc, length-append}
 use Rattle.std.proofs.Math.Seq.{take-suc}
-use Rattle.std.proofs.lemmas.Bool.{cases_Bool, cases_lt}
-use Rattle.std.proofs.lemmas.List.{take_all, take-append-le, take-append-drop, take-take, length-take}
+use Rattle.std.proofs.lemmas.Bool.{cases_lt}
+use Rattle.std.proofs.lemmas.List.{take_all, take-append-le, take-append-drop, length-take}
 use Rattle.std.proofs.lemmas.List.Sums.{sum_by_push}
-use Rattle.std.proofs.lemmas.List.Quantifiers.{position-Some}
 use Rattle.sc_outside.specs.Ends.{IsPrefix}
 use Rattle.sc_repair.specs.declared.repair.RepairEnd.TheVariants.{BadBlock}
 use Rattle.sc_repair.specs.Readings.{block_text, is_bad_block}
@@ -83,7 +81,7 @@ module _ (end : ℕ) where
   counted-block values b =
       elim (cases_lt (length values) end) [
         | inl lt ↦ (let z : count_by is_none (take end values) + 0 ≡ count_by is_none (take end values) = omega arith in
-        ap (count_by is_none) (counted-less values (Some b) lt) ∙ sum_by_push (λ x. cond (is_none x) 1 0) (take end values) (Some b) ∙ z)
+            ap (count_by is_none) (counted-less values (Some b) lt) ∙ sum_by_push (λ x. cond (is_none x) 1 0) (take end values) (Some b) ∙ z)
         | inr le ↦ ap (count_by is_none) (counted-more values (Some b) le)
       ]
 
@@ -125,6 +123,7 @@ due-front values n text good e = due_by (bad_among values) refl
   where
     parts : values ≡ take n values ++ drop n values
     parts = sym (take-append-drop n values)
+
     due_by : (o : Option Refusal) → bad_among values ≡ o → IsPrefix text (due_text o values)
     due_by None is = record {
       rest = values_text (drop n values);

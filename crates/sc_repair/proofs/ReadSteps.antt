@@ -1,5 +1,5 @@
 -- The steps of repairing: a record is a stranger, is refused, or is a slot.
-use Rattle.std.proofs.Common.{◌≡◌, ◌⊎◌, ℕ, ◌+◌, ◌-◌, ◌*◌, ◌<◌, ◌≤◌, Bool, true, false, cond, if◌then◌else◌, nat_le, Some, None, List, [], ◌∷◌, ◌++◌, length, count_by, Option, Result, Ok, Err, refl, sym, ap, ◌∙◌, subst, arith, inl, inr, append-nil, length-append}
+use Rattle.std.proofs.Common.{◌≡◌, ℕ, ◌+◌, ◌<◌, Bool, cond, if◌then◌else◌, Some, None, List, [], ◌∷◌, ◌++◌, length, count_by, Option, Result, Ok, Err, refl, sym, ap, ◌∙◌, subst, arith, inl, inr, append-nil, length-append}
 use Rattle.std.proofs.lemmas.Bool.{lt-leb}
 use Rattle.std.proofs.lemmas.List.Sums.{sum_by_push}
 use Rattle.sc_outside.specs.declared.error.Failed.{Failed}
@@ -7,15 +7,15 @@ use Rattle.sc_outside.specs.Port.{Told}
 use Rattle.sc_rtpdump.specs.Record.{Record}
 use Rattle.sc_code.specs.declared.code.CodeFile.{CodeFile}
 use Rattle.sc_slots.specs.ProtectSteps.{GivesMore}
-use Rattle.sc_slots.specs.Slot.{Slot, Reading, stranger, wrong_code, bad_shape, slot}
-use Rattle.sc_slots.specs.Taken.{Taken, one_past, taken_slot}
+use Rattle.sc_slots.specs.Slot.{Slot, Reading, stranger, slot}
+use Rattle.sc_slots.specs.Taken.{taken_slot}
 use Rattle.sc_slots.proofs.FlushSteps.{GivesMore-none}
 use Rattle.sc_repair.specs.declared.repair.Counts.{Counts}
 use Rattle.sc_repair.specs.declared.repair.RepairEnd.{RepairEnd}
 use Rattle.sc_repair.specs.declared.repair.RepairEnd.TheVariants.{Dump, TooManyRecords, WrongCode, BadShape, TooManySlots, Unfit, Clash, BadBlock, Write, Memory}
 use Rattle.sc_repair.specs.Repairer.{Repairer}
-use Rattle.sc_repair.specs.Repairing.{Refusal, first_of, values_text, slots_of, is_stranger, read_as, slots_in, taken_of, values_of, values_so_far, still, slot_refusal, reading_refusal, refusal, first_refused}
-use Rattle.sc_repair.specs.RepairSteps.{IsRefused, due_text, FallsShort, IsGoing, Keeps, Knows, ComesIn, CountsSlot, ComesCounts, due_after, RecordGives}
+use Rattle.sc_repair.specs.Repairing.{first_of, values_text, slots_of, is_stranger, read_as, slots_in, taken_of, values_of, values_so_far, still, slot_refusal, reading_refusal, refusal, first_refused}
+use Rattle.sc_repair.specs.RepairSteps.{IsRefused, due_text, FallsShort, Keeps, Knows, ComesIn, CountsSlot, ComesCounts, RecordGives}
 use Rattle.sc_repair.proofs.Growth.{slots_in-push, taken_of-push, taken_of-repeat, first_refused-push}
 use Rattle.sc_repair.proofs.ComeSteps.{still_text}
 use Rattle.sc_repair.proofs.PlaceSteps.{none_put}
@@ -46,8 +46,7 @@ module _ (file : CodeFile) (records : List Record) (e : Record) (few : length re
       → Knows file (records ++ e ∷ []) kept counts' × ((more : List ℕ) × GivesMore a a more before before × (values_text (values_so_far file (records ++ e ∷ [])) ≡ values_text (values_so_far file records) ++ more))
   stranger_gives kept counts counts' a before is k em er es =
       let same : slots_in file (records ++ e ∷ []) ≡ slots_in file records = slots_with stranger is ∙ append-nil slots in
-      let text : values_text (values_so_far file (records ++ e ∷ [])) ≡ values_text (values_so_far file records) = ap (λ l. values_text (values_of file l)) same in
-      (
+      let text : values_text (values_so_far file (records ++ e ∷ [])) ≡ values_text (values_so_far file records) = ap (λ l. values_text (values_of file l)) same in (
         record {
           accepted = accepted_with k.accepted (refusal_is stranger is);
           keeps = subst (λ n. Keeps file (slots_in file (records ++ e ∷ [])) kept n (values_text (values_so_far file (records ++ e ∷ [])))) (sym em)
@@ -95,8 +94,7 @@ module _ (file : CodeFile) (records : List Record) (e : Record) (few : length re
     slot_gives kept kept' counts counts' a b before after (Ok (Ok u)) k far x =
         let new : text ++ x.1.0 ≡ values_text (values_of file (slots_in file records ++ one ∷ [])) = still_text file (slots ++ one ∷ []) kept' counts' (text ++ x.1.0) far.0 x.1.2 in
         let all : values_text (values_so_far file (records ++ e ∷ [])) ≡ values_text (values_of file (slots_in file records ++ one ∷ [])) = ap (λ l. values_text (values_of file l)) with_slot in
-        let none : counts.strangers + 0 ≡ counts.strangers = omega arith in
-        (
+        let none : counts.strangers + 0 ≡ counts.strangers = omega arith in (
           record {
             accepted = accepted_with k.accepted (refusal_is (slot one) is ∙ x.0);
             keeps = subst (λ l. Keeps file l kept' counts'.missed (values_text (values_of file l))) (sym with_slot) (subst (Keeps file (slots ++ one ∷ []) kept' counts'.missed) new x.1.2);

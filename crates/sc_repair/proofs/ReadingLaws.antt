@@ -64,7 +64,7 @@ protected-true e are is =
       parts = sym (take-append-drop 24 e.body) ∙ ap (λ (l : List ℕ). l ++ drop 24 e.body) first;
     }
 
-protected-is : (e : Record) (h : SlotHead) (rest : List ℕ) → IsProtected e h rest → is_protected e ≡ true
+pub protected-is : (e : Record) (h : SlotHead) (rest : List ℕ) → IsProtected e h rest → is_protected e ≡ true
 protected-is e h rest p =
     let head : slot_head_of e.body ≡ h = ap slot_head_of p.parts ∙ slot_head_of-spelled h rest p.fits in
     let first : take 24 e.body ≡ slot_head_bytes (slot_head_of e.body) =
@@ -97,7 +97,7 @@ module _ (k r deadline : ℕ) where
   one_of h rest end_above_number x = inr (inr (inr (inr (inl x))))
   one_of h rest flush_with_block x = inr (inr (inr (inr (inr x))))
 
-  bad_shape-Decides : (h : SlotHead) (rest : List ℕ) → Decides (has_bad_shape k r deadline h rest) (HasBadShape k r deadline h rest)
+  pub bad_shape-Decides : (h : SlotHead) (rest : List ℕ) → Decides (has_bad_shape k r deadline h rest) (HasBadShape k r deadline h rest)
   bad_shape-Decides h rest =
       let each : Decides (has_bad_shape k r deadline h rest) (OneFlaw h rest) =
       Decides-or _ _ (Decides-eqb h.m 0)

@@ -1,10 +1,7 @@
 -- The steps of repairing: a slot that fits, behind the lost ones before it.
-use Rattle.std.proofs.Common.{◌≡◌, ℕ, ◌+◌, ◌*◌, ◌<◌, ◌≤◌, Bool, true, false, Some, None, List, [], ◌∷◌, ◌++◌, length, take, drop, position, Option, option_map, Result, Ok, Err, if◌then◌else◌, Contains, refl, sym, ap, ◌∙◌, subst, arith, append-nil, append_assoc}
-use Rattle.std.proofs.lemmas.Bool.{cases_Bool}
+use Rattle.std.proofs.Common.{◌≡◌, ℕ, ◌+◌, ◌≤◌, Bool, true, false, Some, None, List, [], ◌∷◌, ◌++◌, length, take, drop, position, Option, option_map, Ok, if◌then◌else◌, refl, sym, ap, ◌∙◌, subst, arith, append_assoc}
 use Rattle.std.proofs.lemmas.List.{take-append-le, take-append-drop}
-use Rattle.std.proofs.lemmas.List.Elements.{Contains-append_right}
 use Rattle.sc_field.specs.Gf256.{gf256_product}
-use Rattle.sc_outside.specs.declared.error.Failed.{Failed}
 use Rattle.sc_outside.specs.Ends.{IsPrefix}
 use Rattle.sc_outside.specs.Port.{Told}
 use Rattle.sc_code.specs.declared.code.CodeFile.{CodeFile}
@@ -12,21 +9,20 @@ use Rattle.sc_slots.specs.ProtectSteps.{GivesMore}
 use Rattle.sc_slots.specs.Taken.{Taken}
 use Rattle.sc_slots.specs.Repair.{IsConsistent, HasNoClash, IsClash}
 use Rattle.sc_slots.proofs.FitLaws.{AllFrom-one}
-use Rattle.sc_slots.proofs.FlushSteps.{GivesMore-none}
 use Rattle.sc_slots.proofs.SettledLaws.{HasNoClash-iff_consistent}
 use Rattle.sc_repair.specs.declared.repair.RepairEnd.{RepairEnd}
 use Rattle.sc_repair.specs.declared.repair.RepairEnd.TheVariants.{Clash, BadBlock}
 use Rattle.sc_repair.specs.Repairer.{Repairer}
 use Rattle.sc_repair.specs.Repairing.{Refusal, first_of, values_text, is_bad_value, bad_among, put_of, stop_by}
 use Rattle.sc_repair.specs.Stands.{Stands}
-use Rattle.sc_repair.specs.Steps.{Done, PutsAll, Halts, LosesTo, AllGives, AllCounts, values_by, end_of}
+use Rattle.sc_repair.specs.Steps.{Done, PutsAll, Halts, LosesTo, AllCounts, values_by, end_of}
 use Rattle.sc_repair.specs.RepairSteps.{IsSet, GetsReady, values_now, PassCounts, IsRefused, due_text, FallsShort}
 use Rattle.sc_repair.specs.Takes.{SameNumbers}
 use Rattle.sc_repair.specs.Values.{is_consistent, put_values}
-use Rattle.sc_repair.proofs.ValueLaws.{is_consistent-true, is_consistent-false, is_consistent-there, is_consistent-lacks, put_values-grow, put_values-later}
+use Rattle.sc_repair.proofs.ValueLaws.{is_consistent-true, is_consistent-there, is_consistent-lacks, put_values-grow, put_values-later}
 use Rattle.sc_repair.proofs.Growth.{values_text-append, bad_among-lacks, bad_among-none}
-use Rattle.sc_repair.proofs.PutSteps.{bad_at, due-front}
-use Rattle.sc_repair.proofs.AllSteps.{GivesMore-trans, LosesMore-after, Halts-after, LosesTo-after}
+use Rattle.sc_repair.proofs.PutSteps.{due-front}
+use Rattle.sc_repair.proofs.AllSteps.{GivesMore-trans, LosesMore-after}
 use Rattle.sc_repair.proofs.PassSteps.{clear_later, GetsReady-after, ready_longer, ready_again}
 
 -- ---- what stops a slot
@@ -133,6 +129,7 @@ module _ (file : CodeFile) (m : ℕ) (taken : List (Taken ℕ)) (one : Taken ℕ
           let front : take n (put_of file m (taken ++ one ∷ []) (one.number + 1)) ≡ take n (put_of file m taken one.number) = ap (take n) g.1 ∙ take-append-le n before_values g.0 le in
           due_with n text none is (ap (position is_bad_value) front ∙ good) (e ∙ ap values_text (sym front))
       by_fit none false is = subst (λ o. IsPrefix text (due_text o with_values)) (sym (stop_clash none is)) (whole_front n text e)
+
       by_first : (o : Option Refusal) → bad_among (put_of file m taken one.number) ≡ o → IsPrefix text (due_text (stop_by file m taken one) (put_of file m (taken ++ one ∷ []) (one.number + 1)))
       by_first None is = by_fit (bad_among-none before_values is) (is_consistent file.code.k m after_it (one.number + 1)) refl
       by_first (Some r) is =
@@ -166,12 +163,16 @@ module _ (file : CodeFile) (s : Repairer) (taken : List (Taken ℕ)) (one : Take
   module _ (p : Repairer) (a b c : Told) (before mid after text : List ℕ) (missed' : ℕ) (counts : PassCounts one.number s p missed' (Ok None)) (x : GetsReady a b before mid p taken missed' text) where
     ek : p.k ≡ file.code.k
     ek = ap (λ (r : Repairer). r.k) counts.0 ∙ set.k
+
     em : p.m ≡ s.m
     em = ap (λ (r : Repairer). r.m) counts.0
+
     ed : p.deadline ≡ file.channel.t
     ed = ap (λ (r : Repairer). r.deadline) counts.0 ∙ set.deadline
+
     ep : p.passed ≡ one.number
     ep = ap (λ (r : Repairer). r.passed) counts.0
+
     en : p.finished ≡ false
     en = ap (λ (r : Repairer). r.finished) counts.0 ∙ set.goes_on
 
@@ -229,8 +230,7 @@ module _ (file : CodeFile) (s : Repairer) (taken : List (Taken ℕ)) (one : Take
       pub taken_ready : (z : Repairer) (missed'' : ℕ) → AllCounts q z (Ok None) → Stands z (taken ++ one ∷ []) → PutsAll (values_by q (taken ++ one ∷ [])) (end_of q (taken ++ one ∷ [])) b c mid after missed'' (text ++ x.more)
           → (stop_by file s.m taken one ≡ None) × GetsReady a c before after z (taken ++ one ∷ []) missed'' text
       taken_ready z missed'' all st'' y =
-          let good : position is_bad_value (put_of file s.m (taken ++ one ∷ []) (one.number + 1)) ≡ None = ap (position is_bad_value) (sym with_is) ∙ y.done.good in
-          (
+          let good : position is_bad_value (put_of file s.m (taken ++ one ∷ []) (one.number + 1)) ≡ None = ap (position is_bad_value) (sym with_is) ∙ y.done.good in (
             stop_with file s.m taken one clear_of good_before fits ∙ bad_among-lacks (put_of file s.m both (one.number + 1)) good,
             GetsReady-after a b c before mid after z both missed'' text x.more x.gives (ready_again q z both b c mid after missed'' (text ++ x.more) on all st' st'' y),
           )

@@ -276,7 +276,7 @@ module _ {X : Type 0} where
       ap₂ (λ y ys. y ∷ ys) (same_Some x v (each 0 (omega arith))) (while_there-is xs values d e (omega arith) (λ i lt. each (suc i) (omega arith)) (λ lt. stops (omega arith)))
 
   -- a list that has another at its front
-  begins : (d : X) (xs ys : List X) → length xs ≤ length ys → ((i : ℕ) → i < length xs → get_or xs i d ≡ get_or ys i d) → ys ≡ xs ++ drop (length xs) ys
+  pub begins : (d : X) (xs ys : List X) → length xs ≤ length ys → ((i : ℕ) → i < length xs → get_or xs i d ≡ get_or ys i d) → ys ≡ xs ++ drop (length xs) ys
   begins d [] ys le each = refl
   begins d (x ∷ xs) [] le each = absurd (omega arith)
   begins d (x ∷ xs) (y ∷ ys) le each = ap₂ (λ z zs. z ∷ zs) (sym (each 0 (omega arith))) (begins d xs ys (omega arith) (λ i lt. each (suc i) (omega arith)))
@@ -363,7 +363,7 @@ module _ (k m deadline : ℕ) where
       (λ i lt. listed taken w i (omega arith) ∙ each i lt)
       (λ lt. listed taken w (length values) (omega arith) ∙ stops (omega arith))
 
-  put_values-one : (taken : List (Taken ℕ)) (w t : ℕ) → HasNoClash 0 gf256_product k m taken w → t < length (put_values k m deadline taken w)
+  pub put_values-one : (taken : List (Taken ℕ)) (w t : ℕ) → HasNoClash 0 gf256_product k m taken w → t < length (put_values k m deadline taken w)
       → IsSettled 0 gf256_product k m deadline taken w t (get_or (put_values k m deadline taken w) t None)
   put_values-one taken w t none lt =
       let le = put_values-le taken w in

@@ -9,4 +9,5 @@ pub mod Repairing
 pub mod Steps
 pub mod RepairSteps
 pub mod RepairLaws
+pub mod Restoration
 pub mod Prompt

@@ -1,11 +1,11 @@
 -- What taking slots and records does to a port, to the bytes that wait, and to what is kept. For private contracts alone.
-use Rattle.std.specs.Prelude.{◌≡◌, ◌⊎◌, ℕ, ◌+◌, ◌-◌, ◌<◌, ◌≤◌, Bool, true, false, List, [], ◌∷◌, ◌++◌, length, take, count_by, Option, Some, None, Result, Ok, Err}
+use Rattle.std.specs.Prelude.{◌≡◌, ◌⊎◌, ℕ, ◌+◌, ◌<◌, ◌≤◌, Bool, true, false, List, [], ◌∷◌, ◌++◌, length, take, count_by, Option, Some, None, Result, Ok, Err}
 use Rattle.std.specs.Io.KnownBytes.{IsAtEnd}
 use Rattle.std.specs.List.{AllByRecursion}
 use Rattle.sc_outside.specs.declared.error.Failed.{Failed}
 use Rattle.sc_outside.specs.Ends.{IsPrefix, IsProperPrefix}
 use Rattle.sc_outside.specs.Faults.{Rose}
-use Rattle.sc_outside.specs.Port.{Told, Moves, Takes}
+use Rattle.sc_outside.specs.Port.{Told, Moves}
 use Rattle.sc_rtpdump.specs.declared.fault.DumpFault.{DumpFault}
 use Rattle.sc_rtpdump.specs.declared.fault.DumpFault.TheVariants.{Memory as NoRoom}
 use Rattle.sc_rtpdump.specs.Capture.{records_bytes}
@@ -17,10 +17,10 @@ use Rattle.sc_slots.specs.Slot.{Slot}
 use Rattle.sc_slots.specs.Taken.{Taken, one_past, known_end}
 use Rattle.sc_repair.specs.declared.repair.Counts.{Counts}
 use Rattle.sc_repair.specs.declared.repair.RepairEnd.{RepairEnd}
-use Rattle.sc_repair.specs.declared.repair.RepairEnd.TheVariants.{Dump, TooManyRecords, WrongCode, BadShape, TooManySlots, Unfit, Clash, BadBlock, Write, Memory}
+use Rattle.sc_repair.specs.declared.repair.RepairEnd.TheVariants.{Dump, BadBlock, Write, Memory}
 use Rattle.sc_repair.specs.declared.repair.Repaired.{Repaired}
 use Rattle.sc_repair.specs.Repairer.{Repairer}
-use Rattle.sc_repair.specs.Repairing.{Refusal, values_text, is_stranger, width_in, read_as, slots_in, taken_of, put_of, values_of, values_so_far, stop_by, slot_refusal, reading_refusal, refusal, first_refused, text_by, last_values, missed_of, numbers, bad_among}
+use Rattle.sc_repair.specs.Repairing.{Refusal, values_text, is_stranger, width_in, read_as, slots_in, taken_of, put_of, values_of, values_so_far, stop_by, slot_refusal, refusal, first_refused, last_values, missed_of, numbers, bad_among}
 use Rattle.sc_repair.specs.Stands.{Stands}
 use Rattle.sc_repair.specs.Steps.{Done, Halts, LosesTo}
 use Rattle.sc_repair.specs.Values.{put_values}

@@ -1,6 +1,6 @@
 -- What repairing a protected capture owes: the slots that its records are read as, why a record is refused, and the text
 -- that is due by then. Of this project.
-use Rattle.std.specs.Prelude.{ℕ, zero as naught, suc, ◌+◌, ◌-◌, ◌*◌, ◌&&◌, Bool, true, false, List, [], ◌∷◌, ◌++◌, length, take, map, flat_map, position, count_by, is_none, slice_index_or, nat_eq, nat_lt, nat_le, Option, Some, None, option_map, Result, Ok, Err, if◌then◌else◌}
+use Rattle.std.specs.Prelude.{ℕ, zero as naught, suc, ◌+◌, ◌-◌, ◌&&◌, Bool, true, false, List, [], ◌∷◌, ◌++◌, length, take, map, flat_map, position, count_by, is_none, slice_index_or, nat_eq, nat_lt, nat_le, Option, Some, None, option_map, Result, Ok, Err, if◌then◌else◌}
 use Rattle.sc_outside.specs.Ends.{Due, Job}
 use Rattle.sc_rtpdump.specs.declared.fault.DumpFault.TheVariants.{Preamble, Read}
 use Rattle.sc_rtpdump.specs.Record.{Record, empty_record, Front, breaks, front_of}

@@ -1,5 +1,5 @@
 -- What the steps of repairing do to a port, to the bytes that wait, and to what is kept. For private contracts alone.
-use Rattle.std.specs.Prelude.{◌≡◌, ◌≢◌, ℕ, ◌+◌, ◌<◌, ◌≤◌, Bool, true, false, List, [], ◌∷◌, ◌++◌, length, take, position, count_by, is_none, Option, Some, None, Result, Ok, Err}
+use Rattle.std.specs.Prelude.{◌≡◌, ℕ, ◌+◌, ◌<◌, ◌≤◌, Bool, true, false, List, [], ◌++◌, length, take, position, count_by, is_none, Option, Some, None, Result, Ok, Err}
 use Rattle.sc_outside.specs.declared.error.Failed.{Failed}
 use Rattle.sc_outside.specs.Port.{Told}
 use Rattle.sc_slots.specs.ProtectSteps.{GivesMore, LosesMore}

@@ -7,7 +7,7 @@ mod put;
 mod repair;
 mod repairer;
 
-pub use laws::repairing_is_a_job;
+pub use laws::{protected_captures_come_back, repairing_is_a_job};
 pub use repair::{RepairEnd, Repaired, repair_all};
 pub use repairer::{EndState, MAX_SLOTS, Put, Repairer, TakeFault, Unfit};
 

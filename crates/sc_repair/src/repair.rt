@@ -22,6 +22,9 @@ use std::alloc::Global;
 use std::error::Error;
 use std::fmt;
 
+#[cfg(test)]
+mod tests;
+
 /// The most records of a protected capture.
 pub const MAX_RECORDS: u32 = 8_000_000;
 
@@ -440,12 +443,7 @@ fn put_last<P: Port>(port: &mut P, state: &mut Repair) -> Result<Repaired, Repai
     match &mut state.kept {
         None => Ok(state.counts.with_end(0)),
         Some(repairer) => {
-            let end = put_left(
-                repairer,
-                port,
-                &mut state.pending,
-                &mut state.counts.missed,
-            )?;
+            let end = put_left(repairer, port, &mut state.pending, &mut state.counts.missed)?;
             Ok(state.counts.with_end(end))
         }
     }

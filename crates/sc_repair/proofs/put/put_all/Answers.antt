@@ -1,9 +1,7 @@
-use Rattle.std.proofs.Common.{◌≡◌, ℕ, ◌+◌, ◌<◌, ◌≤◌, List, length, take, Ok, Err, refl, sym, ap, ◌∙◌, subst, arith}
+use Rattle.std.proofs.Common.{◌≡◌, length, Ok, Err, refl, sym, ap, ◌∙◌, subst, arith}
 use Rattle.std.proofs.lemmas.Result.{err_from_is_err_and}
-use Rattle.sc_slots.specs.Taken.{Taken}
 use Rattle.sc_repair.specs.Repairer.{Repairer}
-use Rattle.sc_repair.specs.Stands.{Stands}
-use Rattle.sc_repair.specs.Steps.{Done, NextCounts, NextGives, end_of, values_by}
+use Rattle.sc_repair.specs.Steps.{NextCounts, NextGives, end_of, values_by}
 use Rattle.sc_repair.specs.declared.put.Next.TheVariants.{Ended, More, Bad}
 use Rattle.sc_repair.specs.Values.{put_values}
 use Rattle.sc_repair.proofs.AllSteps.{PutsTo-none, turn_after}
@@ -41,7 +39,7 @@ returns-in-Ended-clause-gives g c taken text st le d =
     turn_after c.args.repairer.now c.loop-turn.repairer taken c.put_next.new.repairer.next c.loop-turn.missed c.put_next.new.missed _ _ _ _ c.loop-turn.pending c.put_next.new.pending text (Ok Ended) c.loop-turn.invariant.same
     (c.loop-turn.invariant.stands taken st) (c.loop-turn.invariant.gives taken text st le d)
     (λ text' st' le' d'. subst (λ x. NextGives (values_by c.loop-turn.repairer taken) (end_of c.loop-turn.repairer taken) c.put_next.new.repairer.next (g.P.Port.told c.loop-turn.port) (g.P.Port.told c.put_next.new.port) c.loop-turn.pending c.put_next.new.pending c.put_next.new.missed text' (Ok x)) c.in-Ended.is
-        (c.in_ok-put_next.ensures.gives taken text' st' le' d'))
+    (c.in_ok-put_next.ensures.gives taken text' st' le' d'))
 
 pub returns-in-Ended-clause-stands : goal.returns-in-Ended-clause-stands
 returns-in-Ended-clause-stands g c taken st = c.put_next.ensures.stands taken (c.loop-turn.invariant.stands taken st)
@@ -53,8 +51,7 @@ returns-in-Ended-clause-counts g c =
     let next : c.put_next.new.repairer.next ≡ c.loop-turn.repairer.next = ap (λ (x : Repairer). x.next) counts.0 in
     let deadline : c.loop-turn.repairer.deadline ≡ c.args.repairer.now.deadline = ap (λ (x : Repairer). x.deadline) same in
     let passed : c.loop-turn.repairer.passed ≡ c.args.repairer.now.passed = ap (λ (x : Repairer). x.passed) same in
-    let on : c.loop-turn.repairer.finished ≡ c.args.repairer.now.finished = ap (λ (x : Repairer). x.finished) same in
-    (
+    let on : c.loop-turn.repairer.finished ≡ c.args.repairer.now.finished = ap (λ (x : Repairer). x.finished) same in (
       turned c.args.repairer.now c.loop-turn.repairer c.put_next.new.repairer same (counts.0 ∙ ap (λ n. record c.loop-turn.repairer { next = n; block = c.put_next.new.repairer.block }) (sym next)),
       λ e. omega (arith, counts.1 (on ∙ e), next, deadline, passed),
       λ e taken st. next ∙ counts.2 (on ∙ e) taken (c.loop-turn.invariant.stands taken st)
@@ -66,7 +63,7 @@ returns-in-Bad-clause-gives g c taken text st le d =
     turn_after c.args.repairer.now c.loop-turn.repairer taken c.put_next.new.repairer.next c.loop-turn.missed c.put_next.new.missed _ _ _ _ c.loop-turn.pending c.put_next.new.pending text (Ok (Bad c.in-Bad.slot)) c.loop-turn.invariant.same
     (c.loop-turn.invariant.stands taken st) (c.loop-turn.invariant.gives taken text st le d)
     (λ text' st' le' d'. subst (λ x. NextGives (values_by c.loop-turn.repairer taken) (end_of c.loop-turn.repairer taken) c.put_next.new.repairer.next (g.P.Port.told c.loop-turn.port) (g.P.Port.told c.put_next.new.port) c.loop-turn.pending c.put_next.new.pending c.put_next.new.missed text' (Ok x)) c.in-Bad.is
-        (c.in_ok-put_next.ensures.gives taken text' st' le' d'))
+    (c.in_ok-put_next.ensures.gives taken text' st' le' d'))
 
 pub returns-in-Bad-clause-stands : goal.returns-in-Bad-clause-stands
 returns-in-Bad-clause-stands g c taken st = c.put_next.ensures.stands taken (c.loop-turn.invariant.stands taken st)
@@ -83,7 +80,7 @@ loop-turn-preserved g c =
       gives = λ taken text st le d. turn_after c.args.repairer.now c.loop-turn.repairer taken c.put_next.new.repairer.next c.loop-turn.missed c.put_next.new.missed _ _ _ _ c.loop-turn.pending c.put_next.new.pending text (Ok More) c.loop-turn.invariant.same
           (c.loop-turn.invariant.stands taken st) (c.loop-turn.invariant.gives taken text st le d)
           (λ text' st' le' d'. subst (λ x. NextGives (values_by c.loop-turn.repairer taken) (end_of c.loop-turn.repairer taken) c.put_next.new.repairer.next (g.P.Port.told c.loop-turn.port) (g.P.Port.told c.put_next.new.port) c.loop-turn.pending c.put_next.new.pending c.put_next.new.missed text' (Ok x)) c.in-More.is
-              (c.in_ok-put_next.ensures.gives taken text' st' le' d'));
+          (c.in_ok-put_next.ensures.gives taken text' st' le' d'));
     }
 
 pub returns-clause-few : goal.returns-clause-few

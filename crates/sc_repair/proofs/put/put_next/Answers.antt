@@ -1,4 +1,4 @@
-use Rattle.std.proofs.Common.{◌≡◌, ◌≤◌, refl, ◌∙◌, ap, sym, subst, Some, Ok, Err}
+use Rattle.std.proofs.Common.{◌≤◌, ap, subst, Some, Ok}
 use Rattle.std.proofs.lemmas.Result.{err_from_is_err_and}
 use Rattle.sc_repair.specs.Repairer.{Repairer}
 use Rattle.sc_repair.specs.Stands.{IsNext, IsLeft, OutCounts}

@@ -1,4 +1,4 @@
-use Rattle.std.proofs.Common.{◌≡◌, ℕ, ◌+◌, [], ◌++◌, length, refl, ◌∙◌, ap, sym, arith, append_assoc}
+use Rattle.std.proofs.Common.{◌+◌, [], ◌++◌, length, refl, ◌∙◌, ap, sym, arith, append_assoc}
 use Rattle.std.proofs.lemmas.Result.{err_from_is_err_and}
 use Rattle.sc_rtpdump.specs.Record.{record_bytes}
 use Rattle.sc_rtpdump.proofs.NextSteps.{record_bytes-is}

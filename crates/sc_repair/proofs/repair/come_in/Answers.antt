@@ -1,4 +1,4 @@
-use Rattle.std.proofs.Common.{◌≡◌, ℕ, ◌≤◌, refl, subst}
+use Rattle.std.proofs.Common.{refl, subst}
 use Rattle.sc_slots.specs.Answers.{slot_in}
 use Rattle.sc_repair.specs.RepairSteps.{Resumes}
 use Rattle.sc_repair.proofs.ComeSteps.{many_gives, come_gives, come_counts}

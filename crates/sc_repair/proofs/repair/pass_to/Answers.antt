@@ -1,8 +1,6 @@
-use Rattle.std.proofs.Common.{◌≡◌, ℕ, ◌+◌, ◌<◌, ◌≤◌, List, ◌++◌, Some, None, Ok, Err, refl, sym, ap, ◌∙◌, subst, arith}
+use Rattle.std.proofs.Common.{◌≡◌, ◌++◌, Ok, refl, sym, ap, ◌∙◌, subst, arith}
 use Rattle.std.proofs.lemmas.Result.{err_from_is_err_and}
-use Rattle.sc_slots.specs.Taken.{Taken}
 use Rattle.sc_repair.specs.Repairer.{Repairer}
-use Rattle.sc_repair.specs.RepairSteps.{IsReady}
 use Rattle.sc_repair.specs.Steps.{AllCounts, AllGives, end_of, values_by}
 use Rattle.sc_repair.proofs.PassSteps.{Goes, PassesOne, GetsReady-none, passed_longer, passed_ready, passed_halts, passed_loses}
 use Rattle.sc_repair.proofs.repair.pass_to.Goals as goal
@@ -85,8 +83,7 @@ returns-clause-gives g c taken text r = c.loop-slot.invariant.gives taken text r
 pub returns-clause-counts : goal.returns-clause-counts
 returns-clause-counts g c =
     let end : c.loop-slot.repairer.passed ≡ c.args.number = omega (arith, c.loop-slot.invariant.passed, c.loop-slot-test.false, c.loop-slot.auto._slot-end (omega (arith, c.passed-slot.ensures.number, c.requires.order))) in
-    let deadline : c.loop-slot.repairer.deadline ≡ c.args.repairer.now.deadline = ap (λ (x : Repairer). x.deadline) c.loop-slot.invariant.same in
-    (
+    let deadline : c.loop-slot.repairer.deadline ≡ c.args.repairer.now.deadline = ap (λ (x : Repairer). x.deadline) c.loop-slot.invariant.same in (
       c.loop-slot.invariant.same ∙ ap (λ n. record c.args.repairer.now { front = c.loop-slot.repairer.front; passed = n; next = c.loop-slot.repairer.next; known = c.loop-slot.repairer.known; block = c.loop-slot.repairer.block }) end,
       omega (arith, c.loop-slot.invariant.near, end, deadline),
       c.loop-slot.invariant.few,

@@ -1,4 +1,4 @@
-use Rattle.std.proofs.Common.{◌≡◌, ℕ, ◌+◌, ◌<◌, ◌≤◌, Ok, Err, refl, sym, ap, ◌∙◌, subst, arith}
+use Rattle.std.proofs.Common.{arith}
 use Rattle.sc_slots.specs.Answers.{slot_in}
 use Rattle.sc_repair.specs.Repairing.{taken_of}
 use Rattle.sc_repair.proofs.PlaceSteps.{repeat_gives, unfit_gives, place_gives}

@@ -1,11 +1,7 @@
-use Rattle.std.proofs.Common.{◌≡◌, ℕ, Some, None, Ok, Err, refl, sym, ap, ◌∙◌, subst}
+use Rattle.std.proofs.Common.{Some, sym, subst}
 use Rattle.std.proofs.lemmas.Result.{err_from_is_err_and}
-use Rattle.sc_rtpdump.specs.Record.{Record}
-use Rattle.sc_code.specs.declared.code.CodeFile.{CodeFile}
-use Rattle.sc_repair.specs.declared.repair.Counts.{Counts}
-use Rattle.sc_repair.specs.Repairer.{Repairer}
 use Rattle.sc_repair.specs.Repairing.{values_text, slots_in, values_so_far}
-use Rattle.sc_repair.specs.RepairSteps.{IsGoing, Keeps, Knows, GivesLast}
+use Rattle.sc_repair.specs.RepairSteps.{IsGoing, Knows, GivesLast}
 use Rattle.sc_repair.proofs.LastSteps.{none_left, some_left, left_last}
 use Rattle.sc_repair.proofs.repair.put_last.Goals as goal
 

@@ -1,4 +1,4 @@
-use Rattle.std.proofs.Common.{◌≡◌, ℕ, ◌≤◌, [], length, take, Some, None, Ok, Err, refl, sym, ap, ◌∙◌, subst}
+use Rattle.std.proofs.Common.{◌≤◌, [], Ok, ap, subst}
 use Rattle.sc_repair.specs.Repairer.{Repairer}
 use Rattle.sc_repair.specs.Repairing.{taken_of}
 use Rattle.sc_repair.specs.Steps.{AllGives, LosesTo, end_of, values_by}

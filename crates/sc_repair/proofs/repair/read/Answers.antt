@@ -1,4 +1,4 @@
-use Rattle.std.proofs.Common.{◌≡◌, subst, sym, ap, ◌∙◌}
+use Rattle.std.proofs.Common.{subst, sym, ap, ◌∙◌}
 use Rattle.sc_rtp.specs.Reading.{AreBytes}
 use Rattle.sc_slots.specs.Answers.{reading}
 use Rattle.sc_repair.specs.Readings.{record_reading}

@@ -1,4 +1,4 @@
-use Rattle.std.proofs.Common.{◌≡◌, ℕ, ◌+◌, List, [], length, false, None, Result, Ok, Err, IfOk, subst}
+use Rattle.std.proofs.Common.{◌≡◌, ℕ, ◌+◌, [], length, false, None, Result, Ok, Err, IfOk, subst}
 use Rattle.sc_code.specs.declared.code.CodeFile.{CodeFile}
 use Rattle.sc_repair.specs.Repairer.{Repairer}
 use Rattle.sc_repair.specs.RepairSteps.{IsGoing, Resumes}

@@ -1,4 +1,4 @@
-use Rattle.std.proofs.Common.{◌≡◌, ℕ, ◌<◌, length, refl, sym, ap, ◌∙◌, subst, arith}
+use Rattle.std.proofs.Common.{length, refl, ap, ◌∙◌, subst, arith}
 use Rattle.sc_slots.specs.Answers.{reading, slot_in}
 use Rattle.sc_slots.specs.Slot.{wrong_code, bad_shape}
 use Rattle.sc_repair.specs.declared.repair.RepairEnd.TheVariants.{WrongCode, BadShape}

@@ -1,4 +1,4 @@
-use Rattle.std.proofs.Common.{◌≡◌, ℕ, refl, sym, subst, arith}
+use Rattle.std.proofs.Common.{◌≡◌, refl, sym, subst, arith}
 use Rattle.std.proofs.lemmas.Result.{err_from_is_err_and}
 use Rattle.sc_rtpdump.specs.Head.{Stops}
 use Rattle.sc_repair.proofs.RecordSteps.{Passed-none, Passed-more, takes_all, halts_after, too_many, stops_after}

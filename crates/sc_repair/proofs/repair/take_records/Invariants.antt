@@ -1,4 +1,4 @@
-use Rattle.std.proofs.Common.{◌≡◌, List, []}
+use Rattle.std.proofs.Common.{◌≡◌, []}
 use Rattle.sc_repair.specs.RepairSteps.{AreFew, IsGoing}
 use Rattle.sc_repair.proofs.RecordSteps.{Passed}
 use Rattle.sc_repair.proofs.repair.take_records.Given as goal
