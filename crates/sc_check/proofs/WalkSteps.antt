@@ -16,7 +16,9 @@ use Rattle.sc_code.specs.Determined.{IsKept, IsDecided}
 use Rattle.sc_code.proofs.MeetsLaws.{DecidesColumns-from_decided, IsKept-in_range}
 use Rattle.sc_code.proofs.ElementLaws.{decided_from_DecidesColumns}
 use Rattle.sc_check.specs.Failing.{class_at, DecidesAt, IsFirstIn, FirstIn}
-use Rattle.sc_check.specs.Walk.{IsFrontOf}
+use Rattle.sc_check.specs.Walk.{IsFrontOf, IsRoom}
+use Rattle.std.specs.Prelude.{All}
+use Rattle.std.proofs.lemmas.List.Elements.{All-append}
 use Rattle.std.specs.List.{range_with_len}
 use Rattle.std.proofs.lemmas.Nat.{div-mul-add, mod-mul-add, mul-add-lt}
 use Rattle.std.proofs.lemmas.List.FromFn.{get_or-map-range_with_len}
@@ -340,3 +342,16 @@ pub fails-known : (code : Code ℕ) (channel : ChannelNumbers) (flags : List Boo
 fails-known code channel flags done left first ways from to known front long all low high some told not =
     fails-last code channel flags done left first ways from to front long all low high some (λ decided.
     false≢true (sym not ∙ told.1 (subst (IsDecided 0 gf256_product code) (sym (take_all done flags (omega arith))) decided)))
+
+-- ---- spare matrices: one more
+pub IsRoom-more : (width n : ℕ) (spare more : List (Matrix ℕ)) (m : Matrix ℕ) → more ≡ spare ++ m ∷ [] → m.cols ≡ width → IsRoom width n spare → IsRoom width (n + 1) more
+IsRoom-more width n spare more m e cols room =
+    let long : length more ≡ length spare + 1 = ap length e ∙ length-append spare (m ∷ []) in
+    record {
+      enough = omega (arith, room.enough);
+      widths = subst (All (λ (x : Matrix ℕ). x.cols ≡ width)) (sym e) (All-append (λ (x : Matrix ℕ). x.cols ≡ width) spare (m ∷ []) room.widths all_one);
+    }
+  where
+    all_one : All (λ (x : Matrix ℕ). x.cols ≡ width) (m ∷ [])
+    all_one none d lt = cols
+    all_one (suc k) d lt = absurd (omega arith)

@@ -4,6 +4,7 @@ use Rattle.std.proofs.lemmas.Nat.{mul-le}
 use Rattle.sc_channel.specs.Channel.{ChannelNumbers}
 use Rattle.sc_matrix.specs.Matrix.{Matrix}
 use Rattle.sc_check.proofs.ClearSteps.{bounded, wide_at_most}
+use Rattle.sc_check.proofs.WalkSteps.{IsRoom-more}
 use Rattle.sc_check.proofs.walk.room_for.Goals as goal
 
 pub with_capacity-requires-in-loop-lost : goal.with_capacity-requires-in-loop-lost
@@ -20,6 +21,11 @@ with_capacity-requires-in-loop-lost c =
     ap (λ (n : ℕ). (n + 1) * c.r.result + k) t_is ∙ ap (λ (n : ℕ). (channel.t + 1) * n + k) c.r.ensures.number ∙ ap (λ (n : ℕ). (channel.t + 1) * code.r + n) c.k-k.ensures.number in
     let rows : (c.n-n.result - c.loop-lost.lost) * k ≤ 2624 = omega (arith, mul-le (c.n-n.result - c.loop-lost.lost) k 41 64 (omega (arith, n_is, numbers.ordered.count_in_span, numbers.ordered.span_in_deadline, numbers.deadline_limit)) (omega (arith, c.k-k.ensures.number, c.k-k.ensures.limits.in_range.size_limit))) in
     omega (arith, bounded ((c.n-n.result - c.loop-lost.lost) * k) ((c.t.result + 1) * c.r.result + k) (omega (arith, rows)) (omega (arith, cols, wide)))
+
+pub loop-lost-preserved : goal.loop-lost-preserved
+loop-lost-preserved c =
+    IsRoom-more ((c.t.result + 1) * c.r.result + c.k-k.result) c.loop-lost.lost c.loop-lost.spare.items c.push.new.self.items c.in_ok-with_capacity.field-0
+    c.in_ok-push.ensures.items (ap (λ (m : Matrix ℕ). m.cols) c.in_ok-with_capacity.ensures) c.loop-lost.invariant
 
 pub returns : goal.returns
 returns c =
