@@ -14,6 +14,7 @@ mod lose_laws;
 mod note;
 mod program;
 mod protect;
+mod repair;
 #[cfg(test)]
 mod tests;
 mod verdict;
