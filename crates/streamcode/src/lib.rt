@@ -15,6 +15,7 @@ mod note;
 mod program;
 mod protect;
 mod repair;
+mod repair_laws;
 #[cfg(test)]
 mod tests;
 mod verdict;
@@ -24,3 +25,4 @@ pub use end::{End, Role};
 pub use lose_laws::lose_is_thinning;
 pub use note::conclude;
 pub use program::run;
+pub use repair_laws::repair_is_repairing;
