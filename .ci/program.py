@@ -125,6 +125,40 @@ def protected(data, code, size):
     return b"".join(out), b"slots %d rtcp %d cut %d strange %d\n" % (len(blocks), counts["rtcp"], counts["cut"], counts["strange"])
 
 
+def rtp_part(data):
+    """The preamble of a capture and its RTP records, and how many these are."""
+    at = data.index(b"\n") + 17
+    out = [data[:at]]
+    while at < len(data):
+        length, plen, _ = struct.unpack(">HHI", data[at : at + 8])
+        if kind(plen, data[at + 8 : at + length]) == "rtp":
+            out.append(data[at : at + length])
+        at += length
+    return b"".join(out), len(out) - 1
+
+
+def admitted(seed, channel, count):
+    """A loss of so many flags that a channel admits: each flag is drawn, and dropped where its window isn't fine with it."""
+    w, b, n, _ = channel
+    drawn, flags = random.Random(seed), ""
+    for _ in range(count):
+        lost = [i for i, flag in enumerate((flags + "1")[-w:]) if flag == "1"]
+        fine = len(lost) <= n or lost[-1] - lost[0] < b
+        flags += "1" if fine and drawn.random() < (0.75 if flags.endswith("1") else 0.3) else "0"
+    return flags
+
+
+def repeated(data, flags):
+    """What comes back where each slot repeats the block two slots before: status, bytes and note."""
+    start, count = rtp_part(data)
+    came = {t for t, flag in enumerate(flags) if flag == "0"}
+    last = max(came, default=-1)
+    end = count if last >= count else last + 1
+    lost = [t for t in range(end) if t not in came and t + 2 not in came]
+    kept = "".join("01"[t >= end or t in lost] for t in range(count))
+    return 5 if lost else 0, thinned(start, kept), b"slots %d missed %d strangers 0 repeats 0\n" % (end, len(lost))
+
+
 def decided(code, loss):
     """Whether the kept slots of a loss leave block 0 of a stream over GF(256) no choice: elimination of the lost symbols, block 0 last."""
     k, r, lags = code["k"], code["r"], code["lags"]
@@ -335,6 +369,52 @@ with tempfile.TemporaryDirectory() as folder:
     for line in ["protect x", "protect x 11", "protect x 1473", "protect x 012", "protect x 12 12"]:
         answers(line, line.split(), held(capture), 2, b"", b"usage\n")
 
+    # Repaired captures. What a channel admits to be lost comes back; of the code that repeats, also what else there is to know.
+    flags = json.load(open(os.path.join(top, "examples", "voice-opus-slots.json")))["loss"]
+    voice, count = rtp_part(capture)
+    given, _ = protected(capture, json.load(open(optimal)), 200)
+    answers("repair the example", ["repair", optimal], held(thinned(given, flags)), 0, voice, b"slots %d missed 0 strangers 0 repeats 0\n" % count)
+    rtcp = json.load(open(os.path.join(top, "examples", "voice-opus-rtcp.json")))["loss"]
+    expect("the example without its RTCP", thinned(capture, rtcp), voice)
+    for seed, name, size, data in [
+        (1, optimal, 200, capture),
+        (2, burst, 200, capture),
+        (3, burst, 1472, generated(3, 40, 1472)),
+        (4, repeats, 172, generated(4, 3000, 172)),
+        (5, optimal, 100, generated(5, 500, 100)),
+    ]:
+        code = json.load(open(name))
+        back, count = rtp_part(data)
+        given, _ = protected(data, code, size)
+        came = thinned(given, admitted(seed, code["channel"], count + code["channel"][3]))
+        answers(f"repair {seed}", ["repair", name], held(came), 0, back, b"slots %d missed 0 strangers 0 repeats 0\n" % count)
+    data = generated(6, 30, 40)
+    given, _ = protected(data, json.load(open(repeats)), 40)
+    for seed in range(20):
+        drawn = random.Random(seed)
+        flags = "".join(drawn.choice("0011") for _ in range(32))
+        answers(f"repair by luck {seed}", ["repair", repeats], held(thinned(given, flags)), *repeated(data, flags))
+    answers("repair nothing", ["repair", repeats], held(capture), 0, start, b"slots 0 missed 0 strangers 303 repeats 0\n")
+    two, _ = protected(generated(6, 2, 12), json.load(open(repeats)), 12)
+    clean = generated(6, 2, 12)
+    for what, place, byte, status, back, told in [
+        ("another k", 67, 2, 3, 0, b"record 0 wrong code\n"),
+        ("another sequence", 55, 1, 3, 0, b"record 0 bad shape\n"),
+        ("another parity", 111, 1, 6, 0, b"slot 0 clash\n"),
+        ("another parity of slot 2", 247, 1 ^ two[247], 6, 2, b"slot 2 clash\n"),
+        ("another frame", 77, 11, 3, 0, b"slot 0 bad block\n"),
+        ("another end", 205, 2, 3, 2, b"slot 2 other end\n"),
+    ]:
+        changed = two[:place] + bytes([byte]) + two[place + 1 :]
+        answers(f"repair {what}", ["repair", repeats], held(changed), status, clean[: 44 + 20 * back], told)
+    answers("repair a cut record", ["repair", repeats], held(two[:-1]), 3, clean, b"record 3 cut\n")
+    far = two[:54] + (4000000 % 65536).to_bytes(2, "big") + two[56:72] + (4000000).to_bytes(4, "big") + two[76:]
+    answers("repair a great number", ["repair", repeats], held(far), 4, clean[:44], b"limit slots 4000000\n")
+    answers("repair by no code", ["repair", sample], held(two), 3, b"", b"code shape other\n")
+    answers("repair by no file", ["repair", os.path.join(folder, "none.json")], held(two), 7, b"", b"read fault\n")
+    for line in ["repair", "repair x 12", "repairs x"]:
+        answers(line, line.split(), held(capture), 2, b"", b"usage\n")
+
     # Codes, judged again by elimination. Of one that fails the class is compared, and that its stream refutes it.
     drawn = random.Random(5)
     tried = [json.load(open(burst)), json.load(open(repeats))]
@@ -405,7 +485,7 @@ with tempfile.TemporaryDirectory() as folder:
     os.close(directory)
     if os.path.exists("/dev/full"):
         with open("/dev/full", "wb") as full:
-            for words in [lose, ["gen", "7", "3", "20"], ["protect", burst, "200"], ["check", repeats, "1"], ["bound", "3", "2", "1", "2"]]:
+            for words in [lose, ["gen", "7", "3", "20"], ["protect", burst, "200"], ["repair", repeats], ["check", repeats, "1"], ["bound", "3", "2", "1", "2"]]:
                 done = run(words, held(capture), stdout=full)
                 expect(f"{words[0]}, a failed write: status", done.returncode, 8)
                 expect(f"{words[0]}, a failed write: note", done.stderr, b"write fault\n")
@@ -443,5 +523,15 @@ packets = [whole[44 + 180 * i : 44 + 180 * (i + 1)] for i in range(5)]
 slots = [protected(whole[: 44 + 180 * n], json.load(open(burst)), 172)[0] for n in range(6)]
 slot = (len(slots[1]) - len(slots[0]))
 streams("protect", ["protect", burst, "172"], whole[:44], packets, [slots[n][: 44 + slot * n] for n in range(6)])
+
+# Of the slots 0 and 1, which are lost, each is known once the slot two behind it came.
+with tempfile.TemporaryDirectory() as folder:
+    path = os.path.join(folder, "code.json")
+    with open(path, "w") as file:
+        file.write('{"channel":[3,2,1,2],"k":1,"lags":[[[0]],[[0]],[[1]]],"r":1}')
+    given, _ = protected(whole, json.load(open(path)), 172)
+    size = (len(given) - 44) // 7
+    pieces = [given[44 + size * t : 44 + size * (t + 1)] for t in range(2, 7)]
+    streams("repair", ["repair", path], given[:44], pieces, [whole[: 44 + 180 * n] for n in (0, 1, 4, 5, 5, 5)])
 
 sys.exit(1 if failed else 0)

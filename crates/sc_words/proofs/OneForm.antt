@@ -9,7 +9,7 @@ use Rattle.sc_channel.specs.Channel.{ChannelNumbers, IsChannel, is_channel}
 use Rattle.sc_channel.proofs.ChannelLaws.{is_channel-to, is_channel-from}
 use Rattle.sc_words.specs.declared.words.Kind.{Kind}
 use Rattle.sc_words.specs.declared.words.Kind.TheVariants.{Ms, Layered, Optimal}
-use Rattle.sc_words.specs.Words.{Command, lose, generate, protect, check, bound, certify, design, number_to, channel_at, channel_of, lose_of, gen_at, gen_of, protect_at, protect_of, check_at, check_of, bound_at, bound_of, certify_of, kind_of, design_at, design_of, command_of}
+use Rattle.sc_words.specs.Words.{Command, lose, generate, protect, check, repair, bound, certify, design, number_to, channel_at, channel_of, lose_of, gen_at, gen_of, protect_at, protect_of, check_at, check_of, repair_of, bound_at, bound_of, certify_of, kind_of, design_at, design_of, command_of}
 use Rattle.sc_words.specs.Forms.{kind_word, words_of, IsWithinLimits}
 use Rattle.sc_words.proofs.Numbers.{number_to-to_decimal, number_to-decimal}
 
@@ -126,6 +126,13 @@ check_of-to (code ∷ a ∷ []) command is =
     subst (AreItsWords (codes "check" ∷ code ∷ a ∷ [])) parts.is (cc, (parts.least, workers_text.1))
 check_of-to (code ∷ a ∷ more ∷ rest) command is = absurd (cc)
 
+repair_of-to : (words : List (List ℕ)) (command : Command) → repair_of words ≡ Some command → AreItsWords (codes "repair" ∷ words) command
+repair_of-to [] command is = absurd (cc)
+repair_of-to (code ∷ []) command is =
+    let same : repair code ≡ command = cc in
+    subst (AreItsWords (codes "repair" ∷ code ∷ [])) same (refl, tt)
+repair_of-to (code ∷ more ∷ rest) command is = absurd (cc)
+
 -- the words of a channel
 record ChannelTexts (w b n t : List ℕ) (c : ChannelNumbers) : Type 0 where
   w_is : w ≡ decimal c.w
@@ -237,52 +244,27 @@ design_of-to (kind ∷ w ∷ b ∷ n ∷ t ∷ []) command is =
     subst (AreItsWords (codes "design" ∷ kind ∷ w ∷ b ∷ n ∷ t ∷ [])) parts.is (cc, texts.channel)
 design_of-to (kind ∷ w ∷ b ∷ n ∷ t ∷ more ∷ rest) command is = absurd (cc)
 
--- one command's name after another
-named_design : (name : List ℕ) (words : List (List ℕ)) (command : Command) (is_design : Bool) → bytes_eq name (codes "design") ≡ is_design
-    → cond is_design (design_of words) None ≡ Some command → AreItsWords (name ∷ words) command
-named_design name words command true asked is =
-    subst (λ n. AreItsWords (n ∷ words) command) (sym ((bytes_eq-Decides name (codes "design")).0 asked)) (design_of-to words command is)
-named_design name words command false asked is = absurd (cc)
+-- By a command's name: the words behind it ask for the command, or what is left does.
+named : (name word : List ℕ) (words : List (List ℕ)) (command : Command) (its others : Option Command) (is_named : Bool) → bytes_eq name word ≡ is_named
+    → (its ≡ Some command → AreItsWords (word ∷ words) command) → (others ≡ Some command → AreItsWords (name ∷ words) command)
+    → cond is_named its others ≡ Some command → AreItsWords (name ∷ words) command
+named name word words command its others true asked one other is = subst (λ n. AreItsWords (n ∷ words) command) (sym ((bytes_eq-Decides name word).0 asked)) (one is)
+named name word words command its others false asked one other is = other is
 
-named_certify : (name : List ℕ) (words : List (List ℕ)) (command : Command) (is_certify : Bool) → bytes_eq name (codes "certify") ≡ is_certify
-    → cond is_certify (certify_of words) (cond (bytes_eq name (codes "design")) (design_of words) None) ≡ Some command → AreItsWords (name ∷ words) command
-named_certify name words command true asked is =
-    subst (λ n. AreItsWords (n ∷ words) command) (sym ((bytes_eq-Decides name (codes "certify")).0 asked)) (certify_of-to words command is)
-named_certify name words command false asked is = named_design name words command (bytes_eq name (codes "design")) refl is
-
-named_bound : (name : List ℕ) (words : List (List ℕ)) (command : Command) (is_bound : Bool) → bytes_eq name (codes "bound") ≡ is_bound
-    → cond is_bound (bound_of words) (cond (bytes_eq name (codes "certify")) (certify_of words) (cond (bytes_eq name (codes "design")) (design_of words) None)) ≡ Some command → AreItsWords (name ∷ words) command
-named_bound name words command true asked is =
-    subst (λ n. AreItsWords (n ∷ words) command) (sym ((bytes_eq-Decides name (codes "bound")).0 asked)) (bound_of-to words command is)
-named_bound name words command false asked is = named_certify name words command (bytes_eq name (codes "certify")) refl is
-
-named_check : (name : List ℕ) (words : List (List ℕ)) (command : Command) (is_check : Bool) → bytes_eq name (codes "check") ≡ is_check
-    → cond is_check (check_of words) (cond (bytes_eq name (codes "bound")) (bound_of words) (cond (bytes_eq name (codes "certify")) (certify_of words) (cond (bytes_eq name (codes "design")) (design_of words) None))) ≡ Some command → AreItsWords (name ∷ words) command
-named_check name words command true asked is =
-    subst (λ n. AreItsWords (n ∷ words) command) (sym ((bytes_eq-Decides name (codes "check")).0 asked)) (check_of-to words command is)
-named_check name words command false asked is = named_bound name words command (bytes_eq name (codes "bound")) refl is
-
-named_protect : (name : List ℕ) (words : List (List ℕ)) (command : Command) (is_protect : Bool) → bytes_eq name (codes "protect") ≡ is_protect
-    → cond is_protect (protect_of words) (cond (bytes_eq name (codes "check")) (check_of words) (cond (bytes_eq name (codes "bound")) (bound_of words) (cond (bytes_eq name (codes "certify")) (certify_of words) (cond (bytes_eq name (codes "design")) (design_of words) None)))) ≡ Some command → AreItsWords (name ∷ words) command
-named_protect name words command true asked is =
-    subst (λ n. AreItsWords (n ∷ words) command) (sym ((bytes_eq-Decides name (codes "protect")).0 asked)) (protect_of-to words command is)
-named_protect name words command false asked is = named_check name words command (bytes_eq name (codes "check")) refl is
-
-named_gen : (name : List ℕ) (words : List (List ℕ)) (command : Command) (is_gen : Bool) → bytes_eq name (codes "gen") ≡ is_gen
-    → cond is_gen (gen_of words) (cond (bytes_eq name (codes "protect")) (protect_of words) (cond (bytes_eq name (codes "check")) (check_of words) (cond (bytes_eq name (codes "bound")) (bound_of words) (cond (bytes_eq name (codes "certify")) (certify_of words) (cond (bytes_eq name (codes "design")) (design_of words) None))))) ≡ Some command → AreItsWords (name ∷ words) command
-named_gen name words command true asked is =
-    subst (λ n. AreItsWords (n ∷ words) command) (sym ((bytes_eq-Decides name (codes "gen")).0 asked)) (gen_of-to words command is)
-named_gen name words command false asked is = named_protect name words command (bytes_eq name (codes "protect")) refl is
-
-named_lose : (name : List ℕ) (words : List (List ℕ)) (command : Command) (is_lose : Bool) → bytes_eq name (codes "lose") ≡ is_lose
-    → cond is_lose (lose_of words) (cond (bytes_eq name (codes "gen")) (gen_of words) (cond (bytes_eq name (codes "protect")) (protect_of words) (cond (bytes_eq name (codes "check")) (check_of words) (cond (bytes_eq name (codes "bound")) (bound_of words) (cond (bytes_eq name (codes "certify")) (certify_of words) (cond (bytes_eq name (codes "design")) (design_of words) None)))))) ≡ Some command → AreItsWords (name ∷ words) command
-named_lose name words command true asked is =
-    subst (λ n. AreItsWords (n ∷ words) command) (sym ((bytes_eq-Decides name (codes "lose")).0 asked)) (lose_of-to words command is)
-named_lose name words command false asked is = named_gen name words command (bytes_eq name (codes "gen")) refl is
+named_none : (name : List ℕ) (words : List (List ℕ)) (command : Command) → None ≡ Some command → AreItsWords (name ∷ words) command
+named_none name words command is = absurd (cc)
 
 pub command_of-to : (words : List (List ℕ)) (command : Command) → command_of words ≡ Some command → (words ≡ words_of command) × IsWithinLimits command
 command_of-to [] command is = absurd (cc)
-command_of-to (name ∷ words) command is = named_lose name words command (bytes_eq name (codes "lose")) refl is
+command_of-to (name ∷ words) command is =
+    named name (codes "lose") words command _ _ _ refl (lose_of-to words command)
+    (named name (codes "gen") words command _ _ _ refl (gen_of-to words command)
+    (named name (codes "protect") words command _ _ _ refl (protect_of-to words command)
+    (named name (codes "check") words command _ _ _ refl (check_of-to words command)
+    (named name (codes "repair") words command _ _ _ refl (repair_of-to words command)
+    (named name (codes "bound") words command _ _ _ refl (bound_of-to words command)
+    (named name (codes "certify") words command _ _ _ refl (certify_of-to words command)
+    (named name (codes "design") words command _ _ _ refl (design_of-to words command) (named_none name words command)))))))) is
 
 channel_of-decimal : (c : ChannelNumbers) → IsChannel c → channel_of (decimal c.w) (decimal c.b) (decimal c.n) (decimal c.t) ≡ Some c
 channel_of-decimal c is =
@@ -309,6 +291,7 @@ command_of-words_of (check code workers) within =
     let workers_is = number_to-decimal 64 workers (omega arith) within.1 in
     let least : nat_le 1 workers ≡ true = grind (arith, nat_tests, within.0) in
     rw (workers_is, least) refl
+command_of-words_of (repair code) within = refl
 command_of-words_of (bound c) within = rw (channel_of-decimal c within) refl
 command_of-words_of (certify code cert) within = refl
 command_of-words_of (design kind c) within = rw (kind_of-word kind, channel_of-decimal c within) refl

@@ -1,8 +1,8 @@
 -- What a command that was read means.
 use Rattle.std.specs.Prelude.{◌≤◌}
 use Rattle.sc_words.specs.declared.words.Command.{Command}
-use Rattle.sc_words.specs.declared.words.Command.TheVariants.{Lose, Gen, Protect, Check, Bound, Certify, Design}
-use Rattle.sc_words.specs.Words.{Command as Meaning, lose, generate, protect, check, bound, certify, design}
+use Rattle.sc_words.specs.declared.words.Command.TheVariants.{Lose, Gen, Protect, Check, Repair, Bound, Certify, Design}
+use Rattle.sc_words.specs.Words.{Command as Meaning, lose, generate, protect, check, repair, bound, certify, design}
 
 -- the command that is asked for
 abbrev pub meaning : Command → Meaning
@@ -10,6 +10,7 @@ meaning (Lose code loss) = lose code.now loss.now
 meaning (Gen seed count size) = generate seed count size
 meaning (Protect code size) = protect code.now size
 meaning (Check code workers) = check code.now workers
+meaning (Repair code) = repair code.now
 meaning (Bound channel) = bound channel
 meaning (Certify code cert) = certify code.now cert.now
 meaning (Design kind channel) = design kind channel
@@ -20,6 +21,7 @@ HasItsForms (Lose code loss) = Unit {0}
 HasItsForms (Gen seed count size) = (count ≤ 3999960) × (12 ≤ size) × (size ≤ 1472)
 HasItsForms (Protect code size) = (12 ≤ size) × (size ≤ 1472)
 HasItsForms (Check code workers) = (1 ≤ workers) × (workers ≤ 64)
+HasItsForms (Repair code) = Unit {0}
 HasItsForms (Bound channel) = Unit {0}
 HasItsForms (Certify code cert) = Unit {0}
 HasItsForms (Design kind channel) = Unit {0}

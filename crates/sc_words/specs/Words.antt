@@ -37,6 +37,7 @@ pub data Command : Type 0 where
   generate : ℕ → ℕ → ℕ → Command
   protect : List ℕ → ℕ → Command
   check : List ℕ → ℕ → Command
+  repair : List ℕ → Command
   bound : ChannelNumbers → Command
   certify : List ℕ → List ℕ → Command
   design : Kind → ChannelNumbers → Command
@@ -76,6 +77,11 @@ check_at code None = None
 abbrev pub check_of : List (List ℕ) → Option Command
 check_of (code ∷ workers ∷ []) = check_at code (number_to 64 workers)
 check_of _ = None
+
+-- CODE
+abbrev pub repair_of : List (List ℕ) → Option Command
+repair_of (code ∷ []) = Some (repair code)
+repair_of _ = None
 
 -- the command that a channel asks for, where it is there
 abbrev pub bound_at : Option ChannelNumbers → Option Command
@@ -117,9 +123,10 @@ command_of (name ∷ words) =
     else (if bytes_eq name (codes "gen") then gen_of words
     else (if bytes_eq name (codes "protect") then protect_of words
     else (if bytes_eq name (codes "check") then check_of words
+    else (if bytes_eq name (codes "repair") then repair_of words
     else (if bytes_eq name (codes "bound") then bound_of words
     else (if bytes_eq name (codes "certify") then certify_of words
-    else (if bytes_eq name (codes "design") then design_of words else None))))))
+    else (if bytes_eq name (codes "design") then design_of words else None)))))))
 
 -- the bytes of each word
 abbrev pub texts : {A : Type 0} → List (String A) → List (List ℕ)

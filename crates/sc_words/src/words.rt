@@ -2,7 +2,7 @@
 
 ghost use Rattle.std.specs.Prelude.{◌≡◌, ◌≤◌, IfSome};
 ghost use Rattle.std.specs.Option.{option_map};
-ghost use Rattle.sc_words.specs.Words.{number_to, begins_plain, channel_of, lose_of, gen_of, protect_of, check_of, bound_of, certify_of, kind_of, design_of, command_of, texts};
+ghost use Rattle.sc_words.specs.Words.{number_to, begins_plain, channel_of, lose_of, gen_of, protect_of, check_of, repair_of, bound_of, certify_of, kind_of, design_of, command_of, texts};
 ghost use Rattle.sc_words.specs.Command.{meaning, HasItsForms};
 
 use sc_channel::Channel;
@@ -62,6 +62,11 @@ pub enum Command<'a> {
         /// How many workers share the work: 1 to 64.
         workers: u32,
     },
+    /// `repair CODE`: repair a capture that was protected by a code.
+    Repair {
+        /// The name of the code's file.
+        code: &'a str,
+    },
     /// `bound W B N T`: write the standard certificate of a channel.
     Bound {
         /// The channel.
@@ -86,9 +91,9 @@ pub enum Command<'a> {
 /// The command whose form the words have, the command's name first, and `None` exactly where they
 /// have no form. It takes no memory.
 ///
-/// The forms are `lose CODE LOSS`, `gen SEED COUNT SIZE`, `protect CODE SIZE`, `check CODE WORKERS`, `bound W B N T`,
-/// `certify CODE CERT` and `design KIND W B N T`. Numbers are decimal, without sign and without a leading zero. W, B, N and T
-/// are a channel. The seed has at most 64 bits, the count is at most 3,999,960, a size is 12 to 1,472, and there are 1 to 64
+/// The forms are `lose CODE LOSS`, `gen SEED COUNT SIZE`, `protect CODE SIZE`, `check CODE WORKERS`, `repair CODE`,
+/// `bound W B N T`, `certify CODE CERT` and `design KIND W B N T`. Numbers are decimal, without sign and without a leading zero.
+/// W, B, N and T are a channel. The seed has at most 64 bits, the count is at most 3,999,960, a size is 12 to 1,472, and there are 1 to 64
 /// workers. A kind is `ms`, `layered` or `optimal`. A file's name is any word. The forms are of this project.
 pub fn read_words(words: &Vec<String>) -> Option<Command<'_>>
     ensures command { command_of (texts words.now.items) ≡ option_map meaning result }
@@ -99,6 +104,7 @@ pub fn read_words(words: &Vec<String>) -> Option<Command<'_>>
         [name, rest @ ..] if name.as_str() == "gen" => read_gen(rest),
         [name, rest @ ..] if name.as_str() == "protect" => read_protect(rest),
         [name, rest @ ..] if name.as_str() == "check" => read_check(rest),
+        [name, rest @ ..] if name.as_str() == "repair" => read_repair(rest),
         [name, rest @ ..] if name.as_str() == "bound" => read_bound(rest),
         [name, rest @ ..] if name.as_str() == "certify" => read_certify(rest),
         [name, rest @ ..] if name.as_str() == "design" => read_design(rest),
@@ -185,6 +191,20 @@ fn read_check(words: &[String]) -> Option<Command<'_>>
                 return None;
             }
             Some(Command::Check { code, workers })
+        }
+        _ => None,
+    }
+}
+
+/// The words after `repair`.
+fn read_repair(words: &[String]) -> Option<Command<'_>>
+    ensures command { repair_of (texts words.now) ≡ option_map meaning result }
+    ensures forms { IfSome result HasItsForms }
+{
+    match words {
+        [code] => {
+            let code = code.as_str();
+            Some(Command::Repair { code })
         }
         _ => None,
     }
@@ -406,6 +426,31 @@ mod tests {
             let right = match read_words(&words) {
                 Some(command) => match command {
                     Command::Check { code, workers } => want == Some((code, workers)),
+                    _ => false,
+                },
+                None => want.is_none(),
+            };
+            assert!(rt; right, "at {line}");
+        }
+        Ok(())
+    }
+
+    #[test]
+    fn reads_the_forms_of_repair(rt: HostRuntime) -> Result<(), Fail> {
+        for (line, want) in [
+            ("repair code.json", Some("code.json")),
+            ("repair ", Some("")),
+            ("repair 12", Some("12")),
+            ("repair", None),
+            ("repair code.json 1", None),
+            ("repair  ", None),
+            ("Repair code.json", None),
+            ("repairs code.json", None),
+        ] {
+            let words = words_of(rt.alloc(), line)?;
+            let right = match read_words(&words) {
+                Some(command) => match command {
+                    Command::Repair { code } => want == Some(code),
                     _ => false,
                 },
                 None => want.is_none(),

@@ -1,6 +1,6 @@
 -- What the jobs of the program's commands keep, and how they end.
 use Rattle.std.proofs.lemmas.Bool.Decides.{nat_tests}
-use Rattle.std.proofs.Common.{zero, suc, ◌+◌, is_none, ◌≡◌, ◌∷◌, ◌++◌, ◌≢◌, ◌⊎◌, inl, inr, ℕ, ◌<◌, ◌≤◌, ◌∙◌, Bool, true, false, cond, nat_lt, Option, None, Some, List, [], length, Result, Ok, Err, refl, sym, ap, subst, arith}
+use Rattle.std.proofs.Common.{zero, suc, ◌+◌, ◌==◌, if◌then◌else◌, is_none, ◌≡◌, ◌∷◌, ◌++◌, ◌≢◌, ◌⊎◌, inl, inr, ℕ, ◌<◌, ◌≤◌, ◌∙◌, Bool, true, false, cond, nat_lt, Option, None, Some, List, [], length, Result, Ok, Err, refl, sym, ap, subst, arith}
 use Rattle.sc_outside.specs.Ends.{Job, IsJob, input, write, Ends}
 use Rattle.sc_outside.specs.Whole.{PutsAll, WriteFailed}
 use Rattle.sc_outside.specs.Port.{Told}
@@ -30,12 +30,19 @@ use Rattle.sc_slots.specs.declared.protect.ProtectFault.TheVariants.{TooWide, Du
 use Rattle.sc_slots.specs.declared.protect.Protected.{Protected as Done}
 use Rattle.sc_slots.specs.Protected.{Protection, protection_of, packet_len, protecting_within, protecting, IsOfInput as IsDecidedAnswer}
 use Rattle.sc_slots.proofs.ProtectedLaws.{protecting-IsJob, protecting-decided}
+use Rattle.sc_repair.specs.declared.repair.Repaired.{Repaired as Totals}
+use Rattle.sc_repair.specs.declared.repair.RepairEnd.{RepairEnd}
+use Rattle.sc_repair.specs.declared.repair.RepairEnd.TheVariants as repair
+use Rattle.sc_repair.specs.declared.repairer.Unfit.TheVariants as unfit
+use Rattle.sc_repair.specs.RepairLaws.{IsOfInput as IsRepairAnswer}
+use Rattle.sc_repair.specs.Repairing.{repairing}
+use Rattle.sc_repair.proofs.JobLaws.{repairing-IsJob, repairing-decided}
 use Rattle.sc_trial.specs.Generated.{generated}
 use Rattle.streamcode.specs.declared.end.Role.{Role}
 use Rattle.streamcode.specs.declared.end.End.{End}
-use Rattle.streamcode.specs.declared.end.End.TheVariants.{Thinned, Generated, Protected, Bound, Designed, Accepted, Refused, CertificateRefused, LossRefused, Usage, Capture, MoreRecords, FewerRecords, FileRefused, FileTooLong, PacketTooWide, PacketTooLong, TooManyRecords, TooManySlots, TooManySymbols, NoCode, TooManyClasses, ReadFault, WriteFault, NoMemory}
-use Rattle.streamcode.specs.End.{status_of, end_of_drop, end_of_protect, end_of_design}
-use Rattle.streamcode.specs.Jobs.{refusal, giving, lose_by, lose_job, gen_job, protect_job, check_by, check_job, bound_job, certify_by, certify_job, maker_of, design_text, design_by, design_job, IsSilent}
+use Rattle.streamcode.specs.declared.end.End.TheVariants.{Thinned, Generated, Protected, Repaired, Bound, Designed, Accepted, Refused, CertificateRefused, LossRefused, Usage, Capture, MoreRecords, FewerRecords, FileRefused, FileTooLong, PacketTooWide, PacketTooLong, TooManyRecords, TooManySlots, TooManySymbols, WrongCode, BadShape, OtherWidth, OtherEnd, BadBlock, Clash, NoCode, TooManyClasses, ReadFault, WriteFault, NoMemory}
+use Rattle.streamcode.specs.End.{status_of, end_of_drop, end_of_protect, end_of_repair, end_of_design}
+use Rattle.streamcode.specs.Jobs.{refusal, giving, lose_by, lose_job, gen_job, protect_job, repair_job, check_by, check_job, bound_job, certify_by, certify_job, maker_of, design_text, design_by, design_job, IsSilent}
 use Rattle.sc_check.specs.Answer.{refuted_of}
 use Rattle.sc_optimal.specs.declared.design.Found.{Found}
 use Rattle.sc_optimal.specs.declared.kind.DesignFault.{DesignFault}
@@ -52,6 +59,7 @@ abbrev pub IsOfInput : End → Type 0
 IsOfInput (Thinned dropped) = Unit {0}
 IsOfInput (Generated records) = Unit {0}
 IsOfInput (Protected done) = Unit {0}
+IsOfInput (Repaired totals) = Unit {0}
 IsOfInput Accepted = Unit {0}
 IsOfInput Refused = Unit {0}
 IsOfInput (Bound kept period) = Unit {0}
@@ -66,7 +74,13 @@ IsOfInput (FileTooLong role) = Unit {0}
 IsOfInput (PacketTooWide bytes) = Unit {0}
 IsOfInput (PacketTooLong index len) = Unit {0}
 IsOfInput TooManyRecords = Unit {0}
-IsOfInput TooManySlots = Unit {0}
+IsOfInput (TooManySlots slots) = Unit {0}
+IsOfInput (WrongCode index) = Unit {0}
+IsOfInput (BadShape index) = Unit {0}
+IsOfInput (OtherWidth slot) = Unit {0}
+IsOfInput (OtherEnd slot) = Unit {0}
+IsOfInput (BadBlock slot) = Unit {0}
+IsOfInput (Clash slot) = Unit {0}
 IsOfInput (Capture fault) = Unit {0}
 IsOfInput (MoreRecords flags) = Unit {0}
 IsOfInput (FewerRecords flags records) = Unit {0}
@@ -80,10 +94,15 @@ pub record IsInside (status : ℕ) : Type 0 where
   pub formed : status ≢ 2
   pub inside : (status < 7) ⊎ (9 < status)
 
+repaired_inside : (none : Bool) → IsInside (if none then 0 else 5)
+repaired_inside true = record { formed = λ e. omega (arith, e); inside = inl (omega arith) }
+repaired_inside false = record { formed = λ e. omega (arith, e); inside = inl (omega arith) }
+
 pub of_input_inside : (end : End) → IsOfInput end → IsInside (status_of end)
 of_input_inside (Thinned dropped) h = record { formed = λ e. omega (arith, e); inside = inl (omega arith) }
 of_input_inside (Generated records) h = record { formed = λ e. omega (arith, e); inside = inl (omega arith) }
 of_input_inside (Protected done) h = record { formed = λ e. omega (arith, e); inside = inl (omega arith) }
+of_input_inside (Repaired totals) h = repaired_inside (totals.missed == 0)
 of_input_inside Accepted h = record { formed = λ e. omega (arith, e); inside = inl (omega arith) }
 of_input_inside (Bound kept period) h = record { formed = λ e. omega (arith, e); inside = inl (omega arith) }
 of_input_inside (CertificateRefused residue) h = record { formed = λ e. omega (arith, e); inside = inl (omega arith) }
@@ -97,7 +116,13 @@ of_input_inside (FileTooLong role) h = record { formed = λ e. omega (arith, e);
 of_input_inside (PacketTooWide bytes) h = record { formed = λ e. omega (arith, e); inside = inl (omega arith) }
 of_input_inside (PacketTooLong index len) h = record { formed = λ e. omega (arith, e); inside = inl (omega arith) }
 of_input_inside TooManyRecords h = record { formed = λ e. omega (arith, e); inside = inl (omega arith) }
-of_input_inside TooManySlots h = record { formed = λ e. omega (arith, e); inside = inl (omega arith) }
+of_input_inside (TooManySlots slots) h = record { formed = λ e. omega (arith, e); inside = inl (omega arith) }
+of_input_inside (WrongCode index) h = record { formed = λ e. omega (arith, e); inside = inl (omega arith) }
+of_input_inside (BadShape index) h = record { formed = λ e. omega (arith, e); inside = inl (omega arith) }
+of_input_inside (OtherWidth slot) h = record { formed = λ e. omega (arith, e); inside = inl (omega arith) }
+of_input_inside (OtherEnd slot) h = record { formed = λ e. omega (arith, e); inside = inl (omega arith) }
+of_input_inside (BadBlock slot) h = record { formed = λ e. omega (arith, e); inside = inl (omega arith) }
+of_input_inside (Clash slot) h = record { formed = λ e. omega (arith, e); inside = inl (omega arith) }
 of_input_inside (TooManyClasses count) h = record { formed = λ e. omega (arith, e); inside = inr (omega arith) }
 of_input_inside (Designed candidate k n) h = record { formed = λ e. omega (arith, e); inside = inl (omega arith) }
 of_input_inside (TooManySymbols symbols) h = record { formed = λ e. omega (arith, e); inside = inl (omega arith) }
@@ -287,6 +312,36 @@ protect_job-is file size =
       };
       of_input = λ input. decided_of_input _ (protecting-decided file size input);
     }
+
+repaired_of_input : (result : Result Totals RepairEnd) → IsRepairAnswer result → IsOfInput (end_of_repair result)
+repaired_of_input (Ok totals) h = tt
+repaired_of_input (Err (repair.Dump Preamble)) h = tt
+repaired_of_input (Err (repair.Dump (RecordHead i))) h = tt
+repaired_of_input (Err (repair.Dump (RecordLength i))) h = tt
+repaired_of_input (Err (repair.Dump (Truncated i))) h = tt
+repaired_of_input (Err (repair.Dump Read)) h = absurd h
+repaired_of_input (Err (repair.Dump Memory)) h = absurd h
+repaired_of_input (Err repair.TooManyRecords) h = tt
+repaired_of_input (Err (repair.WrongCode index)) h = tt
+repaired_of_input (Err (repair.BadShape index)) h = tt
+repaired_of_input (Err (repair.TooManySlots slot)) h = tt
+repaired_of_input (Err (repair.Unfit (unfit.OtherWidth slot was now))) h = tt
+repaired_of_input (Err (repair.Unfit (unfit.OtherEnd slot was now))) h = tt
+repaired_of_input (Err (repair.Clash slot)) h = tt
+repaired_of_input (Err (repair.BadBlock slot)) h = tt
+repaired_of_input (Err repair.Write) h = absurd h
+repaired_of_input (Err repair.Memory) h = absurd h
+
+pub repair_job-is : (file : CodeFile) → IsProgramJob (repair_job file)
+repair_job-is file = record {
+  run = record {
+    is_job = IsJob-told_as end_of_repair (repairing file) (repairing-IsJob file);
+    read_failed = refl;
+    write_failed = refl;
+    no_memory = refl;
+  };
+  of_input = λ input. repaired_of_input _ (repairing-decided file input);
+}
 
 pub file_refused-is : (role : Role) (fault : FileFault) → IsProgramJob (refusal true (FileRefused role fault))
 file_refused-is role fault = record { run = refusal-is true (FileRefused role fault); of_input = λ input. tt }

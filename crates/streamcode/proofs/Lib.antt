@@ -7,3 +7,4 @@ pub mod CheckLaws
 pub mod CertifyLaws
 pub mod CandidateSteps
 pub mod DesignLaws
+pub mod RepairLaws

@@ -150,6 +150,14 @@ ends-empty bytes h =
     nil_from_length bytes (eqb-true (length bytes) 0
     (only_ends (length bytes == 0) (nat_lt (length bytes) 8) (nat_lt (length_field bytes) 8) (nat_lt (length bytes) (length_field bytes)) (record_at bytes) (drop (length_field bytes) bytes) h))
 
+-- a reading with nothing behind its records is a capture
+pub whole-capture : (input preamble : List ℕ) (parts : Parts) → IsReading input preamble parts → front_of parts.tail ≡ ends → IsCapture input preamble parts.records
+whole-capture input preamble parts r none = record {
+  preamble_is = r.preamble_is;
+  records_are = r.records_are;
+  parts = r.spelled ∙ ap (λ l. preamble ++ (records_bytes parts.records ++ l)) (ends-empty parts.tail none) ∙ ap (λ l. preamble ++ l) (append-nil (records_bytes parts.records));
+}
+
 reading_whole : (flags : List Bool) (input : List ℕ) (reading : Reading) → AreBytes input → reading_of input ≡ reading → is_ok (thin_end flags reading) ≡ true → HasRecords input flags
 reading_whole flags input no_preamble fits e h = absurd (cc)
 reading_whole flags input (reads preamble parts) fits e h =
@@ -158,11 +166,7 @@ reading_whole flags input (reads preamble parts) fits e h =
     record {
       preamble = preamble;
       records = parts.records;
-      capture = record {
-        preamble_is = r.preamble_is;
-        records_are = r.records_are;
-        parts = r.spelled ∙ ap (λ l. preamble ++ (records_bytes parts.records ++ l)) (ends-empty parts.tail w.0) ∙ ap (λ l. preamble ++ l) (append-nil (records_bytes parts.records));
-      };
+      capture = whole-capture input preamble parts r w.0;
       count = w.1;
     }
 

@@ -14,11 +14,11 @@ use Rattle.streamcode.specs.declared.end.End.{End}
 use Rattle.streamcode.specs.declared.end.End.TheVariants.{FileTooLong, Usage, ReadFault}
 use Rattle.streamcode.specs.End.{status_of}
 use Rattle.streamcode.specs.Files.{by_reading, by_bytes, certificate_plan, loss_plan}
-use Rattle.streamcode.specs.Jobs.{refusal, lose_job, protect_job, check_job, certify_job}
+use Rattle.streamcode.specs.Jobs.{refusal, lose_job, protect_job, repair_job, check_job, certify_job}
 use Rattle.streamcode.specs.Plans.{Plan, owes, fetches, most_fetched, due_by, due_of, PlanEnds, IsSilentPlan, LacksOne}
 use Rattle.streamcode.specs.Runs.{command_plan, files_of, IsDueStatus, ReadRose, IsOutsideStatus, IsQuiet}
-use Rattle.sc_words.specs.Words.{Command, lose, generate, protect, check, bound, certify, design}
-use Rattle.streamcode.proofs.JobLaws.{not_inside, of_input_inside, IsRunJob, IsProgramJob, refusal-is, lose_job-is, gen_job-is, protect_job-is, check_job-is, bound_job-is, certify_job-is, design_job-is, file_refused-is, file_too_long-is}
+use Rattle.sc_words.specs.Words.{Command, lose, generate, protect, check, repair, bound, certify, design}
+use Rattle.streamcode.proofs.JobLaws.{not_inside, of_input_inside, IsRunJob, IsProgramJob, refusal-is, lose_job-is, gen_job-is, protect_job-is, repair_job-is, check_job-is, bound_job-is, certify_job-is, design_job-is, file_refused-is, file_too_long-is}
 
 -- ---- what the plans of commands keep
 abbrev IsAmong : List ℕ → List (List ℕ) → Type 0
@@ -66,6 +66,7 @@ program_plan (lose code loss) = (
 program_plan (generate seed count size) = gen_job-is seed count size
 program_plan (protect code size) = (inl refl, bytes_plan Code code_reading (code ∷ []) (λ file. owes (protect_job file size)) (λ file. protect_job-is file size))
 program_plan (check code workers) = (inl refl, bytes_plan Code code_reading (code ∷ []) (λ file. owes (check_job file)) (λ file. check_job-is file))
+program_plan (repair code) = (inl refl, bytes_plan Code code_reading (code ∷ []) (λ file. owes (repair_job file)) (λ file. repair_job-is file))
 program_plan (bound channel) = bound_job-is channel
 program_plan (design kind channel) = design_job-is kind channel
 program_plan (certify code cert) = (

@@ -1,5 +1,5 @@
 -- How a run of the program ends: its status and its note.
-use Rattle.std.specs.Prelude.{◌⊎◌, ℕ, List, [], ◌∷◌, ◌++◌, codes, decimal, Result, Ok, Err}
+use Rattle.std.specs.Prelude.{◌⊎◌, ℕ, ◌==◌, if◌then◌else◌, List, [], ◌∷◌, ◌++◌, codes, decimal, Result, Ok, Err}
 use Rattle.sc_outside.specs.Sink.{SinkTold}
 use Rattle.sc_outside.specs.Whole.{SinkGets, SinkFailed}
 use Rattle.sc_rtpdump.specs.declared.fault.DumpFault.{DumpFault}
@@ -14,18 +14,27 @@ use Rattle.sc_codefile.specs.declared.fault.FileFault.TheVariants.{NotJson, Shap
 use Rattle.sc_slots.specs.declared.protect.ProtectFault.{ProtectFault}
 use Rattle.sc_slots.specs.declared.protect.ProtectFault.TheVariants.{TooWide, Dump as Unread, TooManyRecords as TooManyRecordsThere, TooLong, TooManySlots as TooManySlotsThere, Write as Unwritten, Memory as NoRoomThere}
 use Rattle.sc_slots.specs.declared.protect.Protected.{Protected as Done}
+use Rattle.sc_repair.specs.declared.repair.Repaired.{Repaired as Totals}
+use Rattle.sc_repair.specs.declared.repair.RepairEnd.{RepairEnd}
+use Rattle.sc_repair.specs.declared.repair.RepairEnd.TheVariants as repair
+use Rattle.sc_repair.specs.declared.repairer.Unfit.TheVariants as unfit
 use Rattle.sc_optimal.specs.declared.kind.DesignFault.{DesignFault}
 use Rattle.sc_optimal.specs.declared.kind.DesignFault.TheVariants as design
 use Rattle.streamcode.specs.declared.end.Role.{Role}
 use Rattle.streamcode.specs.declared.end.Role.TheVariants.{Code, Certificate, Loss as ALoss}
 use Rattle.streamcode.specs.declared.end.End.{End}
-use Rattle.streamcode.specs.declared.end.End.TheVariants.{Thinned, Generated, Protected, Bound, Designed, Accepted, Refused, CertificateRefused, LossRefused, Usage, Capture, MoreRecords, FewerRecords, FileRefused, FileTooLong, PacketTooWide, PacketTooLong, TooManyRecords, TooManySlots, TooManySymbols, NoCode, TooManyClasses, ReadFault, WriteFault, NoMemory}
+use Rattle.streamcode.specs.declared.end.End.TheVariants.{Thinned, Generated, Protected, Repaired, Bound, Designed, Accepted, Refused, CertificateRefused, LossRefused, Usage, Capture, MoreRecords, FewerRecords, FileRefused, FileTooLong, PacketTooWide, PacketTooLong, TooManyRecords, TooManySlots, TooManySymbols, WrongCode, BadShape, OtherWidth, OtherEnd, BadBlock, Clash, NoCode, TooManyClasses, ReadFault, WriteFault, NoMemory}
+
+-- the status of a repaired capture, by the slots below the known end that are missed
+abbrev pub repaired_status : ℕ → ℕ
+repaired_status missed = if missed == 0 then 0 else 5
 
 -- the status with which the program ends
 abbrev pub status_of : End → ℕ
 status_of (Thinned dropped) = 0
 status_of (Generated records) = 0
 status_of (Protected done) = 0
+status_of (Repaired totals) = repaired_status totals.missed
 status_of (Bound kept period) = 0
 status_of (Designed candidate k n) = 0
 status_of Accepted = 0
@@ -41,8 +50,14 @@ status_of (FileTooLong role) = 4
 status_of (PacketTooWide bytes) = 4
 status_of (PacketTooLong index len) = 4
 status_of TooManyRecords = 4
-status_of TooManySlots = 4
+status_of (TooManySlots slots) = 4
 status_of (TooManySymbols symbols) = 4
+status_of (WrongCode index) = 3
+status_of (BadShape index) = 3
+status_of (OtherWidth slot) = 3
+status_of (OtherEnd slot) = 3
+status_of (BadBlock slot) = 3
+status_of (Clash slot) = 6
 status_of NoCode = 10
 status_of (TooManyClasses count) = 11
 status_of ReadFault = 7
@@ -88,6 +103,9 @@ text_of (Thinned dropped) = codes "records " ++ decimal dropped.records ++ codes
 text_of (Generated records) = codes "records " ++ decimal records
 text_of (Protected done) =
     codes "slots " ++ decimal done.slots ++ codes " rtcp " ++ decimal done.rtcp ++ codes " cut " ++ decimal done.cut ++ codes " strange " ++ decimal done.strange
+text_of (Repaired totals) =
+    codes "slots " ++ decimal totals.end ++ codes " missed " ++ decimal totals.missed ++ codes " strangers " ++ decimal totals.strangers
+    ++ codes " repeats " ++ decimal totals.repeats
 text_of Accepted = codes "accepted"
 text_of Refused = codes "refused"
 text_of (Bound kept period) = codes "bound " ++ decimal kept ++ codes "/" ++ decimal period
@@ -103,8 +121,14 @@ text_of (FileTooLong role) = role_text role ++ codes " limit 4194305"
 text_of (PacketTooWide bytes) = codes "limit packet " ++ decimal bytes
 text_of (PacketTooLong index len) = codes "limit size " ++ decimal index ++ codes " " ++ decimal len
 text_of TooManyRecords = codes "limit records 8000001"
-text_of TooManySlots = codes "limit slots 4000001"
+text_of (TooManySlots slots) = codes "limit slots " ++ decimal slots
 text_of (TooManySymbols symbols) = codes "limit symbols " ++ decimal symbols
+text_of (WrongCode index) = codes "record " ++ decimal index ++ codes " wrong code"
+text_of (BadShape index) = codes "record " ++ decimal index ++ codes " bad shape"
+text_of (OtherWidth slot) = codes "slot " ++ decimal slot ++ codes " other width"
+text_of (OtherEnd slot) = codes "slot " ++ decimal slot ++ codes " other end"
+text_of (BadBlock slot) = codes "slot " ++ decimal slot ++ codes " bad block"
+text_of (Clash slot) = codes "slot " ++ decimal slot ++ codes " clash"
 text_of NoCode = codes "no code"
 text_of (TooManyClasses count) = codes "classes " ++ decimal count
 text_of ReadFault = codes "read fault"
@@ -158,6 +182,21 @@ end_of_protect (Err (TooWide bytes)) = PacketTooWide bytes
 end_of_protect (Err (Unread fault)) = end_of_dump fault
 end_of_protect (Err TooManyRecordsThere) = TooManyRecords
 end_of_protect (Err (TooLong index len)) = PacketTooLong index len
-end_of_protect (Err TooManySlotsThere) = TooManySlots
+end_of_protect (Err TooManySlotsThere) = TooManySlots 4000001
 end_of_protect (Err Unwritten) = WriteFault
 end_of_protect (Err NoRoomThere) = NoMemory
+
+-- the end of repairing a capture
+abbrev pub end_of_repair : Result Totals RepairEnd → End
+end_of_repair (Ok totals) = Repaired totals
+end_of_repair (Err (repair.Dump fault)) = end_of_dump fault
+end_of_repair (Err repair.TooManyRecords) = TooManyRecords
+end_of_repair (Err (repair.WrongCode index)) = WrongCode index
+end_of_repair (Err (repair.BadShape index)) = BadShape index
+end_of_repair (Err (repair.TooManySlots slot)) = TooManySlots slot
+end_of_repair (Err (repair.Unfit (unfit.OtherWidth slot was now))) = OtherWidth slot
+end_of_repair (Err (repair.Unfit (unfit.OtherEnd slot was now))) = OtherEnd slot
+end_of_repair (Err (repair.Clash slot)) = Clash slot
+end_of_repair (Err (repair.BadBlock slot)) = BadBlock slot
+end_of_repair (Err repair.Write) = WriteFault
+end_of_repair (Err repair.Memory) = NoMemory

@@ -9,6 +9,7 @@ use Rattle.sc_channel.specs.Loss.{bad_window}
 use Rattle.sc_rtpdump.specs.Thin.{thinning}
 use Rattle.sc_code.specs.declared.code.CodeFile.{CodeFile}
 use Rattle.sc_slots.specs.Protected.{protecting}
+use Rattle.sc_repair.specs.Repairing.{repairing}
 use Rattle.sc_codefile.specs.CertificateFile.{certificate_text}
 use Rattle.sc_codefile.specs.CodeText.{code_text}
 use Rattle.sc_optimal.specs.declared.design.Found.{Found}
@@ -24,7 +25,7 @@ use Rattle.sc_rate.specs.Standard.{standard_certificate}
 use Rattle.sc_trial.specs.Generated.{generated}
 use Rattle.streamcode.specs.declared.end.End.{End}
 use Rattle.streamcode.specs.declared.end.End.TheVariants.{Generated, Bound, Designed, Accepted, CertificateRefused, LossRefused, TooManyClasses, ReadFault, WriteFault, NoMemory}
-use Rattle.streamcode.specs.End.{end_of_drop, end_of_protect, end_of_design}
+use Rattle.streamcode.specs.End.{end_of_drop, end_of_protect, end_of_repair, end_of_design}
 use Rattle.streamcode.specs.Verdict.{verdict_end, verdict_text}
 use Rattle.streamcode.specs.Bound.{bound_line}
 
@@ -53,6 +54,10 @@ gen_job seed count size = giving (Generated count) (generated seed count size)
 -- a capture is protected by a code, for packets of at most this size
 abbrev pub protect_job : CodeFile → ℕ → Job End
 protect_job file size = told_as end_of_protect (protecting file size)
+
+-- a capture that was protected by a code is repaired
+abbrev pub repair_job : CodeFile → Job End
+repair_job file = told_as end_of_repair (repairing file)
 
 -- Whether a code meets its channel: a channel with too many classes is refused; else the verdict is given.
 abbrev pub check_by : Bool → CodeFile → Job End

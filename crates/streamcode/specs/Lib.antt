@@ -9,3 +9,4 @@ pub mod LoseLaws
 pub mod CheckLaws
 pub mod CertifyLaws
 pub mod DesignLaws
+pub mod RepairLaws

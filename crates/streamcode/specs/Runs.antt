@@ -9,10 +9,10 @@ use Rattle.sc_outside.specs.Sink.{SinkTold}
 use Rattle.streamcode.specs.declared.end.End.{End}
 use Rattle.streamcode.specs.declared.end.End.TheVariants.{Usage}
 use Rattle.streamcode.specs.End.{status_of, note_of, IsTold}
-use Rattle.streamcode.specs.Jobs.{refusal, lose_job, gen_job, protect_job, check_job, bound_job, certify_job, design_job}
+use Rattle.streamcode.specs.Jobs.{refusal, lose_job, gen_job, protect_job, repair_job, check_job, bound_job, certify_job, design_job}
 use Rattle.streamcode.specs.Plans.{Plan, owes, PlanEnds}
 use Rattle.streamcode.specs.Files.{code_plan, certificate_plan, loss_plan}
-use Rattle.sc_words.specs.Words.{Command, lose, generate, protect, check, bound, certify, design, command_of}
+use Rattle.sc_words.specs.Words.{Command, lose, generate, protect, check, repair, bound, certify, design, command_of}
 
 -- what is owed by a command
 abbrev pub command_plan : Option Command → Plan
@@ -21,6 +21,7 @@ command_plan (Some (lose code loss)) = code_plan code (λ file. loss_plan loss (
 command_plan (Some (generate seed count size)) = owes (gen_job seed count size)
 command_plan (Some (protect code size)) = code_plan code (λ file. owes (protect_job file size))
 command_plan (Some (check code workers)) = code_plan code (λ file. owes (check_job file))
+command_plan (Some (repair code)) = code_plan code (λ file. owes (repair_job file))
 command_plan (Some (bound channel)) = owes (bound_job channel)
 command_plan (Some (certify code cert)) = code_plan code (λ file. certificate_plan cert (λ certificate. owes (certify_job file certificate)))
 command_plan (Some (design kind channel)) = owes (design_job kind channel)
@@ -32,6 +33,7 @@ files_of (Some (lose code loss)) = code ∷ loss ∷ []
 files_of (Some (generate seed count size)) = []
 files_of (Some (protect code size)) = code ∷ []
 files_of (Some (check code workers)) = code ∷ []
+files_of (Some (repair code)) = code ∷ []
 files_of (Some (bound channel)) = []
 files_of (Some (certify code cert)) = code ∷ cert ∷ []
 files_of (Some (design kind channel)) = []

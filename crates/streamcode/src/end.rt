@@ -1,9 +1,10 @@
 //! How a run ends: its status, its note, and the ends of the layers' faults.
-ghost use Rattle.std.specs.Prelude.{◌≡◌};
-ghost use Rattle.streamcode.specs.End.{status_of, end_of_dump, end_of_drop, end_of_file, end_of_protect, end_of_design};
+ghost use Rattle.std.specs.Prelude.{◌≡◌, Err};
+ghost use Rattle.streamcode.specs.End.{status_of, end_of_dump, end_of_drop, end_of_file, end_of_protect, end_of_repair, end_of_design};
 
 use sc_codefile::FileFault;
 use sc_optimal::DesignFault;
+use sc_repair::{MAX_SLOTS, RepairEnd, Repaired, Unfit};
 use sc_rtpdump::{DropFault, Dropped, DumpFault};
 use sc_slots::{ProtectFault, Protected};
 
@@ -27,6 +28,8 @@ pub enum End {
     Generated(u32),
     /// The capture was protected.
     Protected(Protected),
+    /// The protected capture was repaired, but for the slots that are missed.
+    Repaired(Repaired),
     /// The standard certificate was given, whose bound is this number of kept slots over this period.
     Bound(u32, u32),
     /// The code file of the candidate of this number was given, whose code has blocks of so many symbols, and so many symbols with
@@ -58,10 +61,22 @@ pub enum End {
     PacketTooLong(u32, u32),
     /// The capture has more records than the limit.
     TooManyRecords,
-    /// The capture has more RTP records than a protected capture has slots for.
-    TooManySlots,
+    /// A protected capture has more slots than the limit: it would have so many, or has a slot with this number.
+    TooManySlots(u32),
     /// The codes of the kind would have so many symbols in a block and its parity, which are too many.
     TooManySymbols(u32),
+    /// The record with this index is a protected packet of another code.
+    WrongCode(u32),
+    /// The record with this index is a protected packet whose numbers or length can't be.
+    BadShape(u32),
+    /// The symbols of the slot with this number have another width than those before it.
+    OtherWidth(u32),
+    /// The slot with this number doesn't fit the end that slots before it say.
+    OtherEnd(u32),
+    /// The block of the slot with this number is neither zero nor a frame.
+    BadBlock(u32),
+    /// No stream has the slot with this number and those that were taken before it.
+    Clash(u32),
     /// No code of the kind was found: none of its candidates meets the channel, or it has none for it.
     NoCode,
     /// The channel has so many classes of losses, which are more than a check takes.
@@ -76,20 +91,23 @@ pub enum End {
 
 impl End {
     /// The status with which the program ends: 0 done, 1 a code, a certificate or a loss was judged and refused, 2 no form of words, 3
-    /// refused by a file or the input, 4 beyond a limit, 7 a read or a fetch failed, 8 a write failed, 9 no memory, 10 no code,
-    /// 11 too many classes.
+    /// refused by a file or the input, 4 beyond a limit, 5 slots are missed, 6 a slot contradicts those before it, 7 a read or a
+    /// fetch failed, 8 a write failed, 9 no memory, 10 no code, 11 too many classes.
     pub fn status(&self) -> u8
         ensures { result ≡ status_of self.now }
     {
         match self {
             End::Thinned(_) | End::Generated(_) | End::Protected(_) => 0,
+            End::Repaired(totals) => if totals.missed == 0 { 0 } else { 5 },
             End::Bound(_, _) | End::Designed(_, _, _) | End::Accepted => 0,
             End::Refused | End::CertificateRefused(_) | End::LossRefused(_) => 1,
             End::Usage => 2,
             End::Capture(_) | End::MoreRecords(_) | End::FewerRecords(_, _) => 3,
-            End::FileRefused(_, _) => 3,
+            End::FileRefused(_, _) | End::WrongCode(_) | End::BadShape(_) => 3,
+            End::OtherWidth(_) | End::OtherEnd(_) | End::BadBlock(_) => 3,
             End::FileTooLong(_) | End::PacketTooWide(_) | End::PacketTooLong(_, _) => 4,
-            End::TooManyRecords | End::TooManySlots | End::TooManySymbols(_) => 4,
+            End::TooManyRecords | End::TooManySlots(_) | End::TooManySymbols(_) => 4,
+            End::Clash(_) => 6,
             End::NoCode => 10,
             End::TooManyClasses(_) => 11,
             End::ReadFault => 7,
@@ -143,9 +161,38 @@ impl End {
             Err(ProtectFault::Dump(fault)) => End::from(fault),
             Err(ProtectFault::TooManyRecords) => End::TooManyRecords,
             Err(ProtectFault::TooLong { index, length }) => End::PacketTooLong(index, length),
-            Err(ProtectFault::TooManySlots) => End::TooManySlots,
+            Err(ProtectFault::TooManySlots) => End::TooManySlots(MAX_SLOTS + 1),
             Err(ProtectFault::Write) => End::WriteFault,
             Err(ProtectFault::Memory) => End::NoMemory,
+        }
+    }
+
+    /// The end of repairing a capture.
+    pub fn of_repair(outcome: Result<Repaired, RepairEnd>) -> End
+        ensures { result ≡ end_of_repair outcome }
+    {
+        match outcome {
+            Ok(totals) => End::Repaired(totals),
+            Err(RepairEnd::Dump(fault)) => End::from(fault),
+            Err(RepairEnd::TooManyRecords) => End::TooManyRecords,
+            Err(RepairEnd::WrongCode(index)) => End::WrongCode(index),
+            Err(RepairEnd::BadShape(index)) => End::BadShape(index),
+            Err(RepairEnd::TooManySlots(slot)) => End::TooManySlots(slot),
+            Err(RepairEnd::Unfit(unfit)) => End::of_unfit(unfit),
+            Err(RepairEnd::Clash(slot)) => End::Clash(slot),
+            Err(RepairEnd::BadBlock(slot)) => End::BadBlock(slot),
+            Err(RepairEnd::Write) => End::WriteFault,
+            Err(RepairEnd::Memory) => End::NoMemory,
+        }
+    }
+
+    /// The end at a slot that doesn't fit those before it.
+    fn of_unfit(unfit: Unfit) -> End
+        ensures { result ≡ end_of_repair (Err (RepairEnd.Unfit unfit)) }
+    {
+        match unfit {
+            Unfit::OtherWidth { slot, .. } => End::OtherWidth(slot),
+            Unfit::OtherEnd { slot, .. } => End::OtherEnd(slot),
         }
     }
 }

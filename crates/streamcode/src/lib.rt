@@ -14,6 +14,8 @@ mod lose_laws;
 mod note;
 mod program;
 mod protect;
+mod repair;
+mod repair_laws;
 #[cfg(test)]
 mod tests;
 mod verdict;
@@ -23,3 +25,4 @@ pub use end::{End, Role};
 pub use lose_laws::lose_is_thinning;
 pub use note::conclude;
 pub use program::run;
+pub use repair_laws::repair_is_repairing;

@@ -7,6 +7,7 @@ use arrayvec::ArrayString;
 use itoa::Buffer;
 use sc_codefile::{FileFault, Key};
 use sc_outside::{Failed, Sink, tell_whole};
+use sc_repair::Repaired;
 use sc_rtpdump::{Dropped, DumpFault};
 use sc_slots::Protected;
 
@@ -143,15 +144,40 @@ fn protected_note(done: &Protected) -> Note
         .number(done.strange.into())
 }
 
+/// The text of what repairing did.
+fn repaired_note(totals: &Repaired) -> Note
+    ensures text { result.text.bytes ≡ text_of (End.Repaired totals.now) }
+    ensures short { length result.text.bytes ≤ 120 }
+{
+    Note::of("slots ")
+        .number(totals.end.into())
+        .word(" missed ")
+        .number(totals.missed.into())
+        .word(" strangers ")
+        .number(totals.strangers.into())
+        .word(" repeats ")
+        .number(totals.repeats.into())
+}
+
+/// The text of a number between two words.
+fn numbered(before: &str, number: u32, after: &str) -> Note
+    requires { length before.now + length after.now ≤ 90 }
+    ensures text { result.text.bytes ≡ before.now ++ decimal number ++ after.now }
+    ensures short { length result.text.bytes ≤ 120 }
+{
+    Note::of(before).number(number.into()).word(after)
+}
+
 /// The text of an end.
 fn end_note(end: &End) -> Note
     ensures text { result.text.bytes ≡ text_of end.now }
-    ensures short { length result.text.bytes ≤ 110 }
+    ensures short { length result.text.bytes ≤ 120 }
 {
     match end {
         End::Thinned(dropped) => thinned_note(dropped),
         End::Generated(records) => Note::of("records ").number((*records).into()),
         End::Protected(done) => protected_note(done),
+        End::Repaired(totals) => repaired_note(totals),
         End::Bound(kept, period) => Note::of("bound ")
             .number((*kept).into())
             .word("/")
@@ -185,8 +211,14 @@ fn end_note(end: &End) -> Note
             .word(" ")
             .number((*length).into()),
         End::TooManyRecords => Note::of("limit records 8000001"),
-        End::TooManySlots => Note::of("limit slots 4000001"),
+        End::TooManySlots(slots) => Note::of("limit slots ").number((*slots).into()),
         End::TooManySymbols(symbols) => Note::of("limit symbols ").number((*symbols).into()),
+        End::WrongCode(index) => numbered("record ", *index, " wrong code"),
+        End::BadShape(index) => numbered("record ", *index, " bad shape"),
+        End::OtherWidth(slot) => numbered("slot ", *slot, " other width"),
+        End::OtherEnd(slot) => numbered("slot ", *slot, " other end"),
+        End::BadBlock(slot) => numbered("slot ", *slot, " bad block"),
+        End::Clash(slot) => numbered("slot ", *slot, " clash"),
         End::NoCode => Note::of("no code"),
         End::TooManyClasses(count) => Note::of("classes ").number(*count),
         End::ReadFault => Note::of("read fault"),

@@ -15,6 +15,7 @@ use crate::generate::generate;
 use crate::lose::lose;
 use crate::note::conclude;
 use crate::protect::protect;
+use crate::repair::repair;
 use sc_check::Gate;
 use sc_outside::{Cabinet, Port, Sink};
 use sc_words::{Command, read_words};
@@ -38,6 +39,7 @@ fn perform<R: Threads + Sync, C: Cabinet, P: Port, G: Gate + Sync>(
         Command::Lose { code, loss } => lose(alloc, code, loss, cabinet, port),
         Command::Gen { seed, count, size } => generate(alloc, seed, count, size, port),
         Command::Protect { code, size } => protect(alloc, code, size, cabinet, port),
+        Command::Repair { code } => repair(alloc, code, cabinet, port),
         Command::Bound { channel } => bound(alloc, channel, port),
         Command::Certify { code, cert } => certify(alloc, code, cert, cabinet, port),
         Command::Design { kind, channel } => design(rt, alloc, kind, channel, port, gate),

@@ -2,11 +2,13 @@
 mod checking;
 mod designing;
 mod losing;
+mod repairing;
 
 use super::{End, Role, conclude, run};
 use sc_check::NoGate;
 use sc_codefile::{FileFault, Key};
 use sc_outside::{MemoryCabinet, MemoryPort, MemorySink};
+use sc_repair::Repaired;
 use sc_rtpdump::{Dropped, DumpFault};
 use sc_slots::Protected;
 use std::alloc::{AllocError, Global};
@@ -133,6 +135,18 @@ fn every_end_has_its_note(rt: HostRuntime) -> Result<(), Fail> {
         records: 4_000_000,
         lost: 0,
     };
+    let repaired = Repaired {
+        end: 4_000_000,
+        missed: 0,
+        strangers: 8_000_000,
+        repeats: 17,
+    };
+    let missing = Repaired {
+        end: 4_294_967_295,
+        missed: 4_294_967_295,
+        strangers: 4_294_967_295,
+        repeats: 4_294_967_295,
+    };
     let protected = Protected {
         slots: 4_000_000,
         rtcp: 4_294_967_295,
@@ -189,7 +203,23 @@ fn every_end_has_its_note(rt: HostRuntime) -> Result<(), Fail> {
             "classes 137846528821\n",
         ),
         (End::TooManyRecords, 4, "limit records 8000001\n"),
-        (End::TooManySlots, 4, "limit slots 4000001\n"),
+        (End::TooManySlots(4_000_001), 4, "limit slots 4000001\n"),
+        (
+            End::Repaired(repaired),
+            0,
+            "slots 4000000 missed 0 strangers 8000000 repeats 17\n",
+        ),
+        (
+            End::Repaired(missing),
+            5,
+            "slots 4294967295 missed 4294967295 strangers 4294967295 repeats 4294967295\n",
+        ),
+        (End::WrongCode(0), 3, "record 0 wrong code\n"),
+        (End::BadShape(7), 3, "record 7 bad shape\n"),
+        (End::OtherWidth(1), 3, "slot 1 other width\n"),
+        (End::OtherEnd(2), 3, "slot 2 other end\n"),
+        (End::BadBlock(3), 3, "slot 3 bad block\n"),
+        (End::Clash(4_000_000), 6, "slot 4000000 clash\n"),
         (End::Generated(0), 0, "records 0\n"),
         (End::Generated(3_999_960), 0, "records 3999960\n"),
         (End::LossRefused(17), 1, "loss refused at window 17\n"),

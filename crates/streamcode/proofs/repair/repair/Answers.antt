@@ -1,0 +1,23 @@
+use Rattle.std.proofs.Common.{refl, sym, subst}
+use Rattle.sc_outside.proofs.EndsLaws.{Ends-told_as}
+use Rattle.sc_repair.specs.Repairing.{repairing}
+use Rattle.streamcode.specs.End.{end_of_repair}
+use Rattle.streamcode.specs.Jobs.{repair_job}
+use Rattle.streamcode.specs.Plans.{owes, PlanEnds}
+use Rattle.sc_codefile.specs.Reading.{code_reading}
+use Rattle.streamcode.specs.declared.end.Role.TheVariants.{Code}
+use Rattle.streamcode.proofs.FileLaws.{came-not, came-file}
+use Rattle.streamcode.proofs.repair.repair.Goals as goal
+
+pub returns-in-Ok : goal.returns-in-Ok
+returns-in-Ok g c =
+    let told = g.P.Port.told in
+    let files = g.C.Cabinet.told c.fetch_code.new.cabinet in
+    let job = repair_job c.in-Ok.file in
+    came-file Code code_reading told (λ file. owes (repair_job file)) _ files files c.args.name.now c.args.port.now c.repair_all.new.port c.in-Ok.file c.of_repair.result c.in-Ok.ensures
+    (subst (PlanEnds told (owes job) files files c.args.port.now c.repair_all.new.port) (sym c.of_repair.ensures)
+    (refl, Ends-told_as end_of_repair (repairing c.in-Ok.file) _ _ c.repair_all.result c.repair_all.ensures.ends, λ silent. absurd (cc silent.unread)))
+
+pub returns-in-Err : goal.returns-in-Err
+returns-in-Err g c =
+    came-not Code code_reading g.P.Port.told (λ file. owes (repair_job file)) _ _ c.args.name.now c.args.port.now c.in-Err.end c.in-Err.ensures
