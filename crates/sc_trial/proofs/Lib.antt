@@ -3,7 +3,8 @@
 --   GeneratedLaws  the generated capture is a capture of so many RTP records: generated-capture, generated-count,
 --                  generated-kind
 --
--- DrawSteps and RecordSteps say how this crate's own calls keep up with its definitions.
+-- DrawSteps, LossSteps and RecordSteps say how this crate's own calls keep up with its definitions.
 pub mod DrawSteps
 pub mod GeneratedLaws
+pub mod LossSteps
 pub mod RecordSteps

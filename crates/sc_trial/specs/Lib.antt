@@ -1,3 +1,4 @@
 pub mod Draw
 pub mod Generated
 pub mod GeneratedLaws
+pub mod Loss

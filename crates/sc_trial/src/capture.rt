@@ -10,7 +10,7 @@ ghost use Rattle.sc_rtpdump.specs.Capture.{records_bytes};
 ghost use Rattle.sc_trial.specs.Generated.{generated_record, generated_records, generating, GivesOrHolds, IsUnread};
 ghost use Rattle.sc_trial.specs.declared.capture.TheConstants.{MAX_COUNT, MIN_SIZE, MAX_SIZE};
 
-use super::draw::draw;
+use super::draw::{SEQUENCE, draw};
 use rand_pcg::Pcg32;
 use sc_outside::{Failed, NoMemory, Pending, Port};
 use sc_rtp::write_head;
@@ -31,9 +31,6 @@ pub const MAX_SIZE: u16 = 1472;
 /// The standard preamble: the line of port 5004 of 127.0.0.1, and 16 bytes with that address and port again.
 const PREAMBLE: [u8; 44] =
     *b"#!rtpplay1.0 127.0.0.1/5004\n\x00\x00\x00\x00\x00\x00\x00\x00\x7f\x00\x00\x01\x13\x8c\x00\x00";
-
-/// The sequence of PCG32 that all draws of the project use.
-const SEQUENCE: u64 = 54;
 
 /// The synchronization source of each packet.
 const SSRC: u32 = 0x1234_5678;
