@@ -3,7 +3,7 @@ use Rattle.std.proofs.Common.{◌≡◌, ℕ, zero, suc, ◌+◌, ◌-◌, ◌%�
 use Rattle.std.proofs.lemmas.Bool.{both_ways, cases_lt}
 use Rattle.std.proofs.lemmas.Bool.Decides.{nat_tests}
 use Rattle.std.proofs.lemmas.List.{length-append, append-nil, take-append-drop, take-append-le, get_or-take, get_or_append_left}
-use Rattle.std.proofs.Math.Seq.{take-length, get_or-append_seam}
+use Rattle.std.proofs.Math.Seq.{take-length, take-suc, get_or-append_seam}
 use Rattle.rand_pcg.specs.Lcg.{Lcg, advance}
 use Rattle.rand_pcg.specs.Pcg.{multiplier_64}
 use Rattle.sc_channel.specs.Channel.{ChannelNumbers}
@@ -201,3 +201,28 @@ generated_loss-is g channel n loss e = subst (IsGeneratedLoss g channel) (sym e)
         λ lost. flag ∙ is.1 (subst (IsLostNext g channel) front lost),
       );
 })
+
+-- ---- the only one
+same_flag : (a b : Bool) → (a ≡ true → b ≡ true) → (b ≡ true → a ≡ true) → a ≡ b
+same_flag true b f g = sym (f refl)
+same_flag false true f g = g refl
+same_flag false false f g = refl
+
+front_is : (g : Lcg) (channel : ChannelNumbers) (loss : List Bool) → IsGeneratedLoss g channel loss → (n : ℕ) → n ≤ length loss → take n loss ≡ generated_loss g channel n
+front_is g channel loss is zero le = generated_loss-none g channel
+front_is g channel loss is (suc n) le =
+    let front : take n loss ≡ generated_loss g channel n = front_is g channel loss is n (omega arith) in
+    let next = next_flag-is g channel (take n loss) in
+    let slot = is.slot n (omega arith) in
+    let flag : get_or loss n false ≡ next_flag g channel (take n loss) =
+    same_flag (get_or loss n false) (next_flag g channel (take n loss)) (λ set. next.1 (slot.0 set)) (λ set. slot.1 (next.0 set)) in
+    take-suc loss n false (omega arith)
+    ∙ ap (λ (f : Bool). take n loss ++ f ∷ []) flag
+    ∙ ap (λ (l : List Bool). l ++ next_flag g channel l ∷ []) front
+    ∙ sym (generated_loss-next g channel n (suc n) refl)
+
+pub generated_loss-one : (g : Lcg) (channel : ChannelNumbers) (loss : List Bool) → IsGeneratedLoss g channel loss ↔ (loss ≡ generated_loss g channel (length loss))
+generated_loss-one g channel loss = (
+  λ is. sym (take-length loss) ∙ front_is g channel loss is (length loss) (omega arith),
+  λ e. generated_loss-is g channel (length loss) loss e,
+)

@@ -28,3 +28,7 @@ next_flag g channel before = (word_at g (length before) % 3 == 0) && is_admissib
 unfoldable pub generated_loss : Lcg → ChannelNumbers → ℕ → List Bool
 generated_loss g channel zero = []
 generated_loss g channel (suc n) = generated_loss g channel n ++ next_flag g channel (generated_loss g channel n) ∷ []
+
+-- it is the one loss of its length whose slots are lost as they are to be
+abbrev pub GeneratedLossesAreOne : Type 0
+GeneratedLossesAreOne = (g : Lcg) (channel : ChannelNumbers) (loss : List Bool) → IsGeneratedLoss g channel loss ↔ (loss ≡ generated_loss g channel (length loss))

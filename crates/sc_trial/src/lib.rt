@@ -10,4 +10,4 @@ mod tests;
 
 pub use capture::{GenFault, MAX_COUNT, MAX_SIZE, MIN_SIZE, gen_capture};
 pub use capture_laws::generated_is_a_capture;
-pub use loss::gen_loss;
+pub use loss::{gen_loss, one_generated_loss};

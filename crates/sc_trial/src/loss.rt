@@ -4,7 +4,7 @@ ghost use Rattle.rand_pcg.specs.Lcg.{advance};
 ghost use Rattle.rand_pcg.specs.Pcg.{multiplier_64};
 ghost use Rattle.sc_channel.specs.Loss.{IsAdmissible};
 ghost use Rattle.sc_trial.specs.Draw.{generator, word_at};
-ghost use Rattle.sc_trial.specs.Loss.{IsGeneratedLoss, is_admissible, generated_loss};
+ghost use Rattle.sc_trial.specs.Loss.{IsGeneratedLoss, GeneratedLossesAreOne, is_admissible, generated_loss};
 
 use super::draw::{SEQUENCE, draw_loss};
 use rand_pcg::Pcg32;
@@ -15,12 +15,7 @@ use std::alloc::Global;
 /// The generated loss of a seed, of `len` flags: slot after slot takes one word, and is lost exactly where that word is
 /// divisible by 3 and the channel admits the loss so far with this flag set. It takes memory for the flags alone, once, and
 /// looks back over one window of the channel for each slot that is drawn.
-pub fn gen_loss(
-    alloc: Global,
-    seed: u64,
-    channel: &Channel,
-    len: u32,
-) -> Result<Flags, NoMemory>
+pub fn gen_loss(alloc: Global, seed: u64, channel: &Channel, len: u32) -> Result<Flags, NoMemory>
     ensures flags { IfOk result (λ loss. loss ≡ generated_loss (generator seed) channel.now len) }
     ensures count { IfOk result (λ loss. length loss ≡ len) }
     ensures slots { IfOk result (IsGeneratedLoss (generator seed) channel.now) }
@@ -31,6 +26,12 @@ pub fn gen_loss(
     draw_flags(&mut words, channel, &mut flags);
     Ok(Flags::from_vec(flags))
 }
+
+/// Of each length there is one loss each of whose slots is lost exactly where its word and the channel say so. It does nothing;
+/// its contract is the law.
+pub fn one_generated_loss()
+    ensures { GeneratedLossesAreOne }
+{}
 
 /// Draws the flags of a slice, in order.
 fn draw_flags(words: &mut Pcg32, channel: &Channel, flags: &mut [bool])

@@ -1,6 +1,7 @@
-//! Worked captures, whose bytes a Python script drew, and each public call once.
+//! Worked captures and losses, which a Python script drew, and each public call once.
 
 use super::*;
+use sc_channel::{Channel, first_bad_window};
 use sc_outside::{MemoryPort, NoMemory};
 use sc_rtpdump::{DumpRecord, Kind, kind_of, next_record, read_preamble};
 use std::alloc::Global;
@@ -79,5 +80,43 @@ fn stops_at_a_failed_write(rt: HostRuntime) -> Result<(), Fail> {
         let printed = format!(in rt.alloc(); "{fault}")?;
         assert_eq!(rt; printed.as_str(), text);
     }
+    Ok(())
+}
+
+// Losses as a Python script draws them, which judges each part of at most a window's flags by its span and its count.
+#[test]
+fn generates_losses(rt: HostRuntime) -> Result<(), Fail> {
+    for (seed, w, b, n, t, want) in [
+        (42, 3, 2, 1, 2, "110000"),
+        (42, 3, 2, 1, 2, "110000011000001100011001"),
+        (42, 11, 4, 2, 10, "1100000000000011110000000001110000000000"),
+        (4_294_967_338, 3, 2, 1, 2, "000100001000011001000001"),
+        (42, 3, 2, 1, 2, ""),
+    ] {
+        let channel = Channel::new(w, b, n, t)?;
+        let loss = gen_loss(rt.alloc(), seed, &channel, want.len() as u32)?;
+        assert_eq!(rt; loss.len(), want.len());
+        for (lost, byte) in loss.as_slice().iter().zip(want.as_bytes()) {
+            assert_eq!(rt; *lost, *byte == b'1', "{seed} {w} {want}");
+        }
+    }
+    Ok(())
+}
+
+// Losses of many slots, also of the widest window: admissible, and so many are lost.
+#[test]
+fn generates_long_losses(rt: HostRuntime) -> Result<(), Fail> {
+    for (seed, w, b, n, t, len, lost) in [
+        (7, 11, 4, 2, 10, 10_000, 1593),
+        (7, 3, 2, 1, 2, 10_002, 2521),
+        (1, 255, 40, 3, 40, 2000, 94),
+    ] {
+        let channel = Channel::new(w, b, n, t)?;
+        let loss = gen_loss(rt.alloc(), seed, &channel, len)?;
+        assert_eq!(rt; loss.len(), len as usize);
+        assert_eq!(rt; loss.as_slice().iter().filter(|flag| **flag).count(), lost);
+        assert_eq!(rt; first_bad_window(&channel, loss.as_slice()), None);
+    }
+    one_generated_loss();
     Ok(())
 }

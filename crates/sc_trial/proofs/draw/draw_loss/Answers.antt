@@ -1,4 +1,4 @@
-use Rattle.std.proofs.Common.{ℕ, ◌%◌, ◌==◌, ap, ◌∙◌}
+use Rattle.std.proofs.Common.{ℕ, ◌%◌, ◌==◌, ap}
 use Rattle.rand_pcg.specs.Lcg.{Lcg, state_after}
 use Rattle.sc_trial.specs.Draw.{word_at}
 use Rattle.sc_trial.proofs.draw.draw_loss.Goals as goal

@@ -1,7 +1,6 @@
 use Rattle.std.proofs.Common.{◌≡◌, ◌-◌, is_none, List, Bool, length, take, drop, ap, ◌∙◌, arith}
 use Rattle.std.proofs.lemmas.List.{length-drop}
 use Rattle.std.proofs.Math.Seq.{take-length}
-use Rattle.sc_channel.specs.Loss.{bad_window}
 use Rattle.sc_trial.specs.Loss.{is_admissible}
 use Rattle.sc_trial.proofs.LossSteps.{is_admissible-from_last, none_answer}
 use Rattle.sc_trial.proofs.loss.admits_last.Goals as goal
