@@ -8,3 +8,4 @@ pub mod CertifyLaws
 pub mod CandidateSteps
 pub mod DesignLaws
 pub mod RepairLaws
+pub mod InTimeLaws

@@ -1,5 +1,5 @@
 -- `repair`, in the words of captures, of slots and of the streams that fit them.
-use Rattle.std.proofs.Common.{◌≡◌, ◌⊎◌, inl, inr, ℕ, ◌<◌, ◌≤◌, ◌==◌, if◌then◌else◌, Bool, true, false, Option, Some, None, option_map, position, List, [], take, ◌∷◌, ◌++◌, Result, Ok, Err, refl, sym, ap, ◌∙◌, subst, arith, length}
+use Rattle.std.proofs.Common.{◌≡◌, ◌⊎◌, inl, inr, ℕ, ◌<◌, ◌≤◌, ◌==◌, if◌then◌else◌, Bool, true, false, Option, Some, None, option_map, position, List, [], take, ◌++◌, Result, Err, refl, sym, ap, ◌∙◌, subst, arith, length}
 use Rattle.std.proofs.lemmas.Bool.{eqb-true}
 use Rattle.std.proofs.lemmas.Bool.Decides.{nat_tests}
 use Rattle.sc_field.specs.Gf256.{gf256_product}
@@ -23,7 +23,6 @@ use Rattle.sc_repair.specs.Values.{outcomes}
 use Rattle.sc_repair.proofs.ValueLaws.{outcomes-are}
 use Rattle.streamcode.specs.declared.end.Role.TheVariants.{Code}
 use Rattle.streamcode.specs.declared.end.End.{End}
-use Rattle.streamcode.specs.declared.end.End.TheVariants.{Repaired, Clash}
 use Rattle.streamcode.specs.End.{repaired_status, status_of, end_of_repair}
 use Rattle.streamcode.specs.Jobs.{repair_job}
 use Rattle.streamcode.specs.Plans.{owes}

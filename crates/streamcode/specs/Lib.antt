@@ -10,3 +10,4 @@ pub mod CheckLaws
 pub mod CertifyLaws
 pub mod DesignLaws
 pub mod RepairLaws
+pub mod InTime

@@ -3,6 +3,7 @@ ghost use Rattle.std.specs.Prelude.{◌≡◌, ◌⊎◌, ◌↔◌, ◌≤◌, 
 ghost use Rattle.sc_outside.specs.Ends.{Ends, GivesPrefix};
 ghost use Rattle.sc_outside.specs.Faults.{Rose};
 ghost use Rattle.sc_words.specs.Command.{meaning, HasItsForms};
+ghost use Rattle.streamcode.specs.InTime.{GivesInTime};
 ghost use Rattle.streamcode.specs.Plans.{PlanEnds, due_of, IsSilentPlan, LacksOne};
 ghost use Rattle.streamcode.specs.Runs.{command_plan, files_of, plan_of, RunEnds, IsDueStatus, ReadRose, IsOutsideStatus, IsQuiet};
 ghost use Rattle.sc_words.specs.Words.{command_of, texts};
@@ -32,8 +33,9 @@ fn perform<R: Threads + Sync, C: Cabinet, P: Port, G: Gate + Sync>(
     gate: &G,
 ) -> End
     requires { HasItsForms command }
-    ensures { PlanEnds P.told (command_plan (Some (meaning command.entry))) (C.told cabinet.old) (C.told cabinet.new)
+    ensures ends { PlanEnds P.told (command_plan (Some (meaning command.entry))) (C.told cabinet.old) (C.told cabinet.new)
         port.old port.new result }
+    ensures in_time { GivesInTime (Some (meaning command.entry)) (C.told cabinet.old) (P.told port.old) (P.told port.new) }
 {
     match command {
         Command::Lose { code, loss } => lose(alloc, code, loss, cabinet, port),
@@ -56,8 +58,9 @@ fn answer<R: Threads + Sync, C: Cabinet, P: Port, G: Gate + Sync>(
     port: &mut P,
     gate: &G,
 ) -> End
-    ensures { PlanEnds P.told (plan_of (texts words.now.items)) (C.told cabinet.old) (C.told cabinet.new)
+    ensures ends { PlanEnds P.told (plan_of (texts words.now.items)) (C.told cabinet.old) (C.told cabinet.new)
         port.old port.new result }
+    ensures in_time { GivesInTime (command_of (texts words.now.items)) (C.told cabinet.old) (P.told port.old) (P.told port.new) }
 {
     match read_words(words) {
         Some(command) => perform(rt, alloc, command, cabinet, port, gate),
@@ -98,6 +101,9 @@ pub fn run<R: Threads + Sync, C: Cabinet, P: Port, N: Sink, G: Gate + Sync>(
     ensures prefix { IfSome (P.told port.old).left (λ input.
         IfSome (due_of (plan_of (texts words.now.items)) (C.told cabinet.old).files input) (λ due.
         GivesPrefix (P.told port.old) (P.told port.new) due.text)) }
+
+    // What `repair` owes once a record came is written before a byte of the next one is read.
+    ensures in_time { GivesInTime (command_of (texts words.now.items)) (C.told cabinet.old) (P.told port.old) (P.told port.new) }
 
     // Status 2 comes exactly where the words have no form. 7 comes only where a count of reads or of fetches rose, or the
     // files are told and lack one that the words name, and 8 only where the port's count of writes rose. Where nothing is
