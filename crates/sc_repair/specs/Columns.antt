@@ -53,5 +53,15 @@ pub record IsRoomyColumns (known : Knowledge ℕ) (whole free : List Bool) (byte
 -- two equations say the same where the whole columns have the stored byte strings
 abbrev pub SaysSame : List Bool → List (List ℕ) → ℕ → List ℕ → List ℕ → List ℕ → List ℕ → Type 0
 SaysSame whole stored w row right row' right' =
-    (vs : List (List ℕ)) → length vs ≡ length row → All (IsBytes w) vs → HasStored whole stored vs
+    All IsByte row → (vs : List (List ℕ)) → length vs ≡ length row → All (IsBytes w) vs → HasStored whole stored vs
     → Gives w row right vs ↔ Gives w row' right' vs
+
+-- the whole columns before column n were taken out of an equation
+abbrev pub TakenOut : List Bool → List (List ℕ) → ℕ → List ℕ → List ℕ → ℕ → List ℕ → List ℕ → Type 0
+TakenOut whole stored w row0 right0 n row right =
+    (length row ≡ length row0) × (length right ≡ length right0)
+    × ((c : ℕ) → c < n → slice_index_or whole c false ≡ true → slice_index_or row c 0 ≡ 0)
+    × ((c : ℕ) → c < n → slice_index_or row0 c 0 < 256)
+    × ((c : ℕ) → c < n → slice_index_or row c 0 < 256)
+    × ((c : ℕ) → n ≤ c → slice_index_or row c 0 ≡ slice_index_or row0 c 0)
+    × SaysSame whole stored w row0 right0 row right

@@ -1,8 +1,9 @@
 //! What is known of the columns of symbols: the bytes of those that came, and what equations say of the others.
-ghost use Rattle.std.specs.Prelude.{◌≡◌, ◌+◌, ◌*◌, ◌<◌, ◌≤◌, ◌++◌, ℕ, List, IfOk, MatchOption, true, false, length, drop, replicate, slice_index_or, slice_set};
+ghost use Rattle.std.specs.Prelude.{◌≡◌, ◌+◌, ◌*◌, ◌<◌, ◌≤◌, ◌++◌, ℕ, List, IfOk, MatchOption, All, true, false, length, drop, replicate, slice_index_or, slice_set};
 ghost use borrow.Rule.Slice.PartMut.{put_mid};
 ghost use Rattle.sc_field.specs.Gf256.{gf256_product};
 ghost use Rattle.sc_field.specs.Scale.{scaled_sum};
+ghost use Rattle.sc_matrix.specs.Module.{IsByte};
 ghost use Rattle.sc_matrix.specs.Vector.{IsVector};
 ghost use Rattle.sc_matrix.specs.Layout.{cut};
 ghost use Rattle.sc_echelon.specs.Knowledge.{IsSolution, IsBytes, IsValueAt, IsOpenAt, Forgets, zero_bytes};
@@ -183,13 +184,17 @@ fn take_out(
     requires bytes { length bytes.now ≡ length row.old * length sum.old }
     ensures row { length row.new ≡ length row.old }
     ensures sum { length sum.new ≡ length sum.old }
+    ensures elements { All IsByte row.old }
+    ensures rest { All IsByte row.new }
     ensures out { (c : ℕ) → slice_index_or whole.now c false ≡ true → slice_index_or row.new c 0 ≡ 0 }
     ensures same { SaysSame whole.now (cut (length row.old) (length sum.old) bytes.now) (length sum.old) row.old sum.old row.new sum.new }
 {
     let m = sum.len();
     for c in 0..row.len() {
-        if whole[c] && row[c] != Gf256::zero() {
-            add_product(made, row[c], sum, &bytes[c * m..c * m + m]);
+        let x = row[c];
+        x.known();
+        if whole[c] {
+            add_product(made, x, sum, &bytes[c * m..c * m + m]);
             row[c] = Gf256::zero();
         }
     }
