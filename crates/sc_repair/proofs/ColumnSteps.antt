@@ -4,21 +4,22 @@ use Rattle.std.specs.List.{range_with_len}
 use Rattle.std.specs.Int.Bits.{xor_assoc, xor_self, xor_zero_r}
 use Rattle.std.proofs.lemmas.Bool.{cases_lt, cases_eq, cond-true, cond-false}
 use Rattle.std.proofs.lemmas.List.{length-replicate, length-map, length-append, length-take-le, length-drop, get_or-replicate, get_or-take, get_or-drop, get_or_past, get_or_default, get_or_append_left, get_or-append_right, get_or-append-add, get_or-set_same, get_or-set_other}
-use Rattle.std.proofs.lemmas.List.Elements.{All-append, All-replicate, All-set, All-from_get_or, All-get_or, All-cons, All-head, All-tail, All-take, All-drop}
+use Rattle.std.proofs.lemmas.List.Elements.{All-append, All-replicate, All-set, All-from_get_or, All-get_or, All-cons, All-head, All-tail, All-nil, All-take, All-drop}
 use Rattle.std.proofs.lemmas.List.FromFn.{length-map-range_with_len, get_or-map-range_with_len}
+use borrow.Rule.Slice.PartMut.{put_mid}
 use Rattle.sc_field.specs.Scale.{scaled_sum}
 use Rattle.sc_field.specs.Gf256.{gf256_product}
 use Rattle.sc_field.specs.Laws.Gf256Laws.{gf256_field, gf256_action}
 use Rattle.sc_matrix.specs.Module.{IsByte, IsModule}
 use Rattle.sc_matrix.specs.Vector.{IsVector, add_vectors, scale_vector, dot, combination}
 use Rattle.sc_matrix.specs.Layout.{cut}
-use Rattle.sc_matrix.proofs.LayoutLaws.{vectors-cut, length-cut, length-row}
+use Rattle.sc_matrix.proofs.LayoutLaws.{vectors-cut, length-cut, length-row, get_or-cut, cut-put_mid, length-put_mid, row_within}
 use Rattle.sc_matrix.proofs.VectorLaws.{length-add_vectors}
 use Rattle.sc_matrix.proofs.ModuleLaws.{none_plus}
 use Rattle.sc_matrix.proofs.ByteSteps.{scaled_sum_is}
 use Rattle.sc_code.proofs.ColumnLaws.{All-map_range}
 use Rattle.sc_echelon.specs.Equation.{Row}
-use Rattle.sc_echelon.specs.Knowledge.{Knowledge, IsSolution, IsBytes, IsValueAt, IsOpenAt, Adds, Follows, Contradicts, Forgets, MeetsRow, zero_bytes, xor_bytes, act_bytes}
+use Rattle.sc_echelon.specs.Knowledge.{Knowledge, IsSolution, IsBytes, IsValueAt, IsOpenAt, Adds, Follows, Contradicts, Forgets, MeetsRow, zero_bytes, xor_bytes, act_bytes, nothing_known}
 use Rattle.sc_echelon.proofs.Bytes.{bytes_module}
 use Rattle.sc_echelon.proofs.DotLaws.{dot_value, dot_none, dot_one, dot_same}
 use Rattle.sc_repair.specs.Equations.{Learns, Refuses, Gives}
@@ -149,3 +150,323 @@ taken_kept whole stored w row0 right0 row sum c h byte none = (
   λ i le. h.5 i (omega arith),
   h.6,
 )
+
+-- ---- what solves it
+
+unit_value : (w n c x : ℕ) (vs : List (List ℕ)) → x < 256 → c < n → length vs ≡ n → All (IsBytes w) vs
+    → combination 0 bit_xor gf256_product w (set (replicate n 0) c x) vs ≡ act_bytes gf256_product x (get_or vs c [])
+unit_value w n c x vs byte lt count values =
+    let zeros : List ℕ = replicate n 0 in
+    let lz : length zeros ≡ n = length-replicate n 0 in
+    let ls : length (set zeros c x) ≡ n = length-set zeros c x ∙ lz in
+    dot_one gf256_field (module_of w) (set zeros c x) vs c (All-set IsByte zeros c x byte (All-replicate IsByte n 0 (omega arith))) values (omega arith) (omega arith) (λ i li lv ne. inl (get_or-set_other zeros c i x 0 ne ∙ get_or-replicate n i 0 0 (omega arith)))
+    ∙ ap₂ (λ (y : ℕ) (v : List ℕ). act_bytes gf256_product y v) (get_or-set_same zeros c x 0 (omega arith)) (get_or_default vs c (zero_bytes w) [] (omega arith))
+
+-- a column's unit row gives its value
+pub unit_gives : (w n c : ℕ) (vs : List (List ℕ)) → c < n → length vs ≡ n → All (IsBytes w) vs → combination 0 bit_xor gf256_product w (set (replicate n 0) c 1) vs ≡ get_or vs c []
+unit_gives w n c vs lt count values =
+    unit_value w n c 1 vs (omega arith) lt count values ∙ (module_of w).times_one (get_or vs c []) (All-get_or (IsBytes w) vs c [] (omega arith) values)
+
+module _ (whole : List Bool) (bytes : List ℕ) (n w : ℕ) where
+  row_at : ℕ → Row ℕ (List ℕ)
+  row_at c = stored_row n w whole bytes c
+
+  met_whole : (c : ℕ) (vs : List (List ℕ)) → c < n → length vs ≡ n → All (IsBytes w) vs → get_or whole c false ≡ true → MeetsRow gf256_product w (stored_row n w whole bytes c) vs ↔ (get_or vs c [] ≡ get_or (cut n w bytes) c [])
+  met_whole c vs lt count values e =
+      let one : cond (get_or whole c false) 1 0 ≡ 1 = cond-true (get_or whole c false) 1 0 e in
+      let right : cond (get_or whole c false) (get_or (cut n w bytes) c []) (zero_bytes w) ≡ get_or (cut n w bytes) c [] = cond-true (get_or whole c false) (get_or (cut n w bytes) c []) (zero_bytes w) e in
+      let left : combination 0 bit_xor gf256_product w (set (replicate n 0) c (cond (get_or whole c false) 1 0)) vs ≡ get_or vs c [] =
+      ap (λ (x : ℕ). combination 0 bit_xor gf256_product w (set (replicate n 0) c x) vs) one ∙ unit_gives w n c vs lt count values in
+      (λ m. sym left ∙ m ∙ right, λ m. left ∙ m ∙ sym right)
+
+  met_other : (c : ℕ) (vs : List (List ℕ)) → c < n → length vs ≡ n → All (IsBytes w) vs → get_or whole c false ≡ false → MeetsRow gf256_product w (stored_row n w whole bytes c) vs
+  met_other c vs lt count values e =
+      let none : cond (get_or whole c false) 1 0 ≡ 0 = cond-false (get_or whole c false) 1 0 e in
+      let right : cond (get_or whole c false) (get_or (cut n w bytes) c []) (zero_bytes w) ≡ zero_bytes w = cond-false (get_or whole c false) (get_or (cut n w bytes) c []) (zero_bytes w) e in
+      ap (λ (x : ℕ). combination 0 bit_xor gf256_product w (set (replicate n 0) c x) vs) none ∙ unit_value w n c 0 vs (omega arith) lt count values
+      ∙ (module_of w).times_zero (get_or vs c []) (All-get_or (IsBytes w) vs c [] (omega arith) values) ∙ sym right
+
+-- a list solves all that is known exactly where it solves the equations and has the stored byte strings
+pub all_known-iff : (known : Knowledge ℕ) (whole : List Bool) (bytes : List ℕ) → length whole ≡ known.cols → (vs : List (List ℕ))
+    → IsSolution gf256_product (all_known known whole bytes) vs ↔ (IsSolution gf256_product known vs × HasStored whole (cut known.cols known.width bytes) vs)
+all_known-iff known whole bytes count vs =
+    let n = known.cols in
+    let w = known.width in
+    let f : ℕ → Row ℕ (List ℕ) = stored_row n w whole bytes in
+    let P : Row ℕ (List ℕ) → Type 0 = λ r. MeetsRow gf256_product w r vs in
+    let xs : List (Row ℕ (List ℕ)) = map f (range_with_len 0 n) in
+    let lx : length xs ≡ n = length-map-range_with_len f 0 n in (
+      λ s. (
+        record { values = s.values; solves = All-from_get_or P known.rows (f 0) (λ i lt.
+        subst P (get_or-append-add xs known.rows i (f 0)) (All-get_or P (xs ++ known.rows) (length xs + i) (f 0) (omega (arith, length-append xs known.rows)) s.solves)) },
+        λ c e.
+            let lt : c < n = omega (arith, flag_within whole c e) in
+            (met_whole whole bytes n w c vs lt s.values.width s.values.entries e).0
+            (subst P (get_or_append_left xs known.rows (f 0) c (omega arith) ∙ get_or-map-range_with_len f 0 n c c (f 0) lt (omega arith)) (All-get_or P (xs ++ known.rows) c (f 0) (omega (arith, length-append xs known.rows)) s.solves)),
+      ),
+      λ s. record {
+        values = s.0.values;
+        solves = All-append P xs known.rows (All-map_range P f n (λ c lt. elim (cases (get_or whole c false)) [
+          | inl e ↦ (met_whole whole bytes n w c vs lt s.0.values.width s.0.values.entries e).1 (s.1 c e)
+          | inr e ↦ met_other whole bytes n w c vs lt s.0.values.width s.0.values.entries e
+        ])) s.0.solves;
+      },
+    )
+
+-- ---- whole columns are put into a list
+
+abbrev pub overlay : List Bool → List (List ℕ) → List (List ℕ) → ℕ → List (List ℕ)
+overlay whole stored vs n = map (λ c. cond (get_or whole c false) (get_or stored c []) (get_or vs c [])) (range_with_len 0 n)
+
+module _ (whole : List Bool) (stored vs : List (List ℕ)) (n : ℕ) where
+  overlay_at : (c : ℕ) → c < n → get_or (overlay whole stored vs n) c [] ≡ cond (get_or whole c false) (get_or stored c []) (get_or vs c [])
+  overlay_at c lt = get_or-map-range_with_len (λ c. cond (get_or whole c false) (get_or stored c []) (get_or vs c [])) 0 n c c [] lt (omega arith)
+
+  overlay_whole : (c : ℕ) → c < n → get_or whole c false ≡ true → get_or (overlay whole stored vs n) c [] ≡ get_or stored c []
+  overlay_whole c lt e = overlay_at c lt ∙ cond-true (get_or whole c false) (get_or stored c []) (get_or vs c []) e
+
+  overlay_other : (c : ℕ) → c < n → get_or whole c false ≡ false → get_or (overlay whole stored vs n) c [] ≡ get_or vs c []
+  overlay_other c lt e = overlay_at c lt ∙ cond-false (get_or whole c false) (get_or stored c []) (get_or vs c []) e
+
+  overlay_vector : (w : ℕ) → IsVector (IsBytes w) n vs → All (IsBytes w) stored → length stored ≡ n → IsVector (IsBytes w) n (overlay whole stored vs n)
+  overlay_vector w values all count =
+      let long = values.width in
+      record {
+        width = length-map-range_with_len (λ c. cond (get_or whole c false) (get_or stored c []) (get_or vs c [])) 0 n;
+        entries = All-map_range (IsBytes w) (λ c. cond (get_or whole c false) (get_or stored c []) (get_or vs c [])) n (λ c lt. elim (cases (get_or whole c false)) [
+          | inl e ↦ subst (IsBytes w) (sym (cond-true (get_or whole c false) (get_or stored c []) (get_or vs c []) e)) (All-get_or (IsBytes w) stored c [] (omega arith) all)
+          | inr e ↦ subst (IsBytes w) (sym (cond-false (get_or whole c false) (get_or stored c []) (get_or vs c []) e)) (All-get_or (IsBytes w) vs c [] (omega arith) values.entries)
+        ]);
+      }
+
+-- a solution of the equations becomes one of all that is known
+pub whole_put_in : (known : Knowledge ℕ) (whole free : List Bool) (bytes : List ℕ) → IsColumns known whole free bytes → (vs : List (List ℕ)) → IsSolution gf256_product known vs
+    → IsSolution gf256_product (all_known known whole bytes) (overlay whole (cut known.cols known.width bytes) vs known.cols)
+whole_put_in known whole free bytes h vs s =
+    let n = known.cols in
+    let w = known.width in
+    let stored = cut n w bytes in
+    let values = overlay_vector whole stored vs n w s.values (vectors-cut IsByte n w bytes h.byte_count h.are_bytes) (length-cut n w bytes) in
+    (all_known-iff known whole bytes h.whole_count (overlay whole stored vs n)).1 (
+      h.is_free vs (overlay whole stored vs n) s values (λ c lt e. overlay_other whole stored vs n c lt (elim (cases (get_or whole c false)) [
+        | inl set_here ↦ absurd (let other : true ≡ false = sym (h.within c set_here) ∙ e in cc)
+        | inr not_set ↦ not_set
+      ])),
+      λ c e. (let lt : c < n = omega (arith, flag_within whole c e, h.whole_count) in overlay_whole whole stored vs n c lt e),
+    )
+
+pub some_solves : (known : Knowledge ℕ) (whole free : List Bool) (bytes : List ℕ) → IsColumns known whole free bytes → ((vs : List (List ℕ)) × IsSolution gf256_product known vs) → (vs : List (List ℕ)) × IsSolution gf256_product (all_known known whole bytes) vs
+some_solves known whole free bytes h some = (overlay whole (cut known.cols known.width bytes) some.0 known.cols, whole_put_in known whole free bytes h some.0 some.1)
+
+-- ---- values
+
+pub value_where_whole : (known : Knowledge ℕ) (whole free : List Bool) (bytes : List ℕ) → IsColumns known whole free bytes → (c : ℕ) → get_or whole c false ≡ true → IsValueAt gf256_product (all_known known whole bytes) c (get_or (cut known.cols known.width bytes) c [])
+value_where_whole known whole free bytes h c e vs s = ((all_known-iff known whole bytes h.whole_count vs).0 s).1 c e
+
+pub value_where_solved : (known : Knowledge ℕ) (whole free : List Bool) (bytes : List ℕ) → IsColumns known whole free bytes → (c : ℕ) (b : List ℕ) → IsValueAt gf256_product known c b → IsValueAt gf256_product (all_known known whole bytes) c b
+value_where_solved known whole free bytes h c b value vs s = value vs ((all_known-iff known whole bytes h.whole_count vs).0 s).0
+
+pub open_where_open : (known : Knowledge ℕ) (whole free : List Bool) (bytes : List ℕ) → IsColumns known whole free bytes → (c : ℕ) → c < known.cols → get_or whole c false ≡ false → IsOpenAt gf256_product known c → IsOpenAt gf256_product (all_known known whole bytes) c
+open_where_open known whole free bytes h c lt e x =
+    let stored = cut known.cols known.width bytes in
+    record {
+      one_list = overlay whole stored x.one_list known.cols;
+      other_list = overlay whole stored x.other_list known.cols;
+      one_solves = whole_put_in known whole free bytes h x.one_list x.one_solves;
+      other_solves = whole_put_in known whole free bytes h x.other_list x.other_solves;
+      differ = λ same. x.differ (sym (overlay_other whole stored x.one_list known.cols c lt e) ∙ same ∙ overlay_other whole stored x.other_list known.cols c lt e);
+    }
+
+-- ---- equations are added
+
+-- what an equation says to the solutions of all that is known, it says without its whole columns
+pub says_here : (known : Knowledge ℕ) (whole free : List Bool) (bytes row right row' right' : List ℕ) → IsColumns known whole free bytes → length row ≡ known.cols → length right ≡ known.width → All IsByte row
+    → SaysSame whole (cut (length row) (length right) bytes) (length right) row right row' right'
+    → (vs : List (List ℕ)) → IsSolution gf256_product (all_known known whole bytes) vs → Gives known.width row right vs ↔ Gives known.width row' right' vs
+says_here known whole free bytes row right row' right' h lr lb elements same vs s =
+    let both = (all_known-iff known whole bytes h.whole_count vs).0 s in
+    let stored_same : cut (length row) (length right) bytes ≡ cut known.cols known.width bytes = ap₂ (λ (a b : ℕ). cut a b bytes) lr lb in
+    let same' : SaysSame whole (cut known.cols known.width bytes) known.width row right row' right' =
+    subst (λ (st : List (List ℕ)). SaysSame whole st known.width row right row' right') stored_same
+    (subst (λ (x : ℕ). SaysSame whole (cut (length row) (length right) bytes) x row right row' right') lb same) in
+    same' elements vs (s.values.width ∙ sym lr) s.values.entries both.1
+
+-- an equation whose coefficients are zero says that its right side is
+pub zero_says : (w : ℕ) (row right : List ℕ) (vs : List (List ℕ)) → All IsByte row → All (IsBytes w) vs → ((c : ℕ) → c < length row → get_or row c 0 ≡ 0) → Gives w row right vs ↔ (zero_bytes w ≡ right)
+zero_says w row right vs elements values zeros =
+    let e : combination 0 bit_xor gf256_product w row vs ≡ zero_bytes w = dot_none gf256_field (module_of w) row vs elements values (λ i lt lv. inl (zeros i lt)) in
+    (λ g. sym e ∙ g, λ z. e ∙ z)
+
+-- the equations with one more say nothing of the columns that it doesn't touch
+pub free_more : (old new : Knowledge ℕ) (free free' : List Bool) (row right : List ℕ) → IsFree old free → new.cols ≡ old.cols → new.width ≡ old.width → All IsByte row → length row ≡ old.cols
+    → ((c : ℕ) → get_or free' c false ≡ true → (get_or free c false ≡ true) × (get_or row c 0 ≡ 0)) → Adds gf256_product old (record { coeffs = row; right = right }) new → IsFree new free'
+free_more old new free free' row right h cols width elements count touched adds vs us s values same =
+    let both = (adds vs).0 s in
+    let here : IsVector (IsBytes old.width) old.cols us = subst (λ (x : ℕ). IsVector (IsBytes x) old.cols us) width (subst (λ (x : ℕ). IsVector (IsBytes new.width) x us) cols values) in
+    let old_us : IsSolution gf256_product old us = h vs us both.0 here (λ c lt e. same c (omega arith) (elim (cases (get_or free' c false)) [
+      | inl set_here ↦ absurd (let other : true ≡ false = sym (touched c set_here).0 ∙ e in cc)
+      | inr not_set ↦ not_set
+    ])) in
+    let w = old.width in
+    let lv = both.0.values.width in
+    let lu = here.width in
+    let meets : combination 0 bit_xor gf256_product w row us ≡ combination 0 bit_xor gf256_product w row vs =
+    dot_same gf256_field (module_of w) row us vs elements here.entries both.0.values.entries (omega arith) (λ i li lu'. elim (cases (get_or free' i false)) [
+      | inl set_here ↦ inl (touched i set_here).1
+      | inr not_set ↦ inr (get_or_default us i (zero_bytes w) [] lu' ∙ same i (omega arith) not_set ∙ get_or_default vs i [] (zero_bytes w) (omega arith))
+    ]) in
+    (adds us).1 (old_us, meets ∙ both.1)
+
+-- fewer columns are free
+pub free_less : (known : Knowledge ℕ) (free free' : List Bool) → IsFree known free → ((c : ℕ) → get_or free' c false ≡ true → get_or free c false ≡ true) → IsFree known free'
+free_less known free free' h less vs us s values same = h vs us s values (λ c lt e. same c lt (elim (cases (get_or free' c false)) [
+  | inl set_here ↦ absurd (let other : true ≡ false = sym (less c set_here) ∙ e in cc)
+  | inr not_set ↦ not_set
+]))
+
+-- the stored columns are the same after an equation
+same_stored : (old new : Knowledge ℕ) (bytes : List ℕ) → new.cols ≡ old.cols → new.width ≡ old.width → cut new.cols new.width bytes ≡ cut old.cols old.width bytes
+same_stored old new bytes cols width = ap₂ (λ (a b : ℕ). cut a b bytes) cols width
+
+pub columns_more : (old new : Knowledge ℕ) (whole free free' : List Bool) (bytes : List ℕ) → IsColumns old whole free bytes → new.cols ≡ old.cols → new.width ≡ old.width → length free' ≡ length free
+    → ((c : ℕ) → get_or whole c false ≡ true → get_or free' c false ≡ true) → IsFree new free' → IsColumns new whole free' bytes
+columns_more old new whole free free' bytes h cols width count within is_free =
+    record {
+      some = (let s = h.some in omega arith);
+      whole_count = h.whole_count ∙ sym cols;
+      free_count = count ∙ h.free_count ∙ sym cols;
+      byte_count = h.byte_count ∙ ap₂ (λ (a b : ℕ). a * b) (sym cols) (sym width);
+      are_bytes = h.are_bytes;
+      within = within;
+      is_free = is_free;
+    }
+
+-- the equation was told without its whole columns
+pub learns_new : (old new : Knowledge ℕ) (whole free : List Bool) (bytes row right row' right' : List ℕ) → IsColumns old whole free bytes → new.cols ≡ old.cols → new.width ≡ old.width
+    → ((vs : List (List ℕ)) → IsSolution gf256_product (all_known old whole bytes) vs → Gives old.width row right vs ↔ Gives old.width row' right' vs)
+    → Adds gf256_product old (record { coeffs = row'; right = right' }) new → Learns (all_known old whole bytes) (all_known new whole bytes) (Gives old.width row right)
+learns_new old new whole free bytes row right row' right' h cols width says adds symbols =
+    let iff_old = all_known-iff old whole bytes h.whole_count symbols in
+    let iff_new = all_known-iff new whole bytes (h.whole_count ∙ sym cols) symbols in
+    let stored = same_stored old new bytes cols width in (
+      λ s.
+          let x = iff_new.0 s in
+          let y = (adds symbols).0 x.0 in
+          let all = iff_old.1 (y.0, subst (λ (st : List (List ℕ)). HasStored whole st symbols) stored x.1) in
+          (all, (says symbols all).1 y.1),
+      λ s.
+          let x = iff_old.0 s.0 in
+          iff_new.1 ((adds symbols).1 (x.0, (says symbols s.0).0 s.1), subst (λ (st : List (List ℕ)). HasStored whole st symbols) (sym stored) x.1),
+    )
+
+pub learns_known : (old : Knowledge ℕ) (whole free : List Bool) (bytes row right row' right' : List ℕ) → IsColumns old whole free bytes
+    → ((vs : List (List ℕ)) → IsSolution gf256_product (all_known old whole bytes) vs → Gives old.width row right vs ↔ Gives old.width row' right' vs)
+    → Follows gf256_product old (record { coeffs = row'; right = right' }) → Learns (all_known old whole bytes) (all_known old whole bytes) (Gives old.width row right)
+learns_known old whole free bytes row right row' right' h says follows symbols = (
+  λ s. (s, (says symbols s).1 (follows symbols ((all_known-iff old whole bytes h.whole_count symbols).0 s).0)),
+  λ s. s.0,
+)
+
+-- a contradiction with the rest is one with all that is known
+pub refuses_clash : (old : Knowledge ℕ) (whole free : List Bool) (bytes row right row' right' : List ℕ) → IsColumns old whole free bytes
+    → ((vs : List (List ℕ)) → IsSolution gf256_product (all_known old whole bytes) vs → Gives old.width row right vs ↔ Gives old.width row' right' vs)
+    → Contradicts gf256_product old (record { coeffs = row'; right = right' }) → Refuses (all_known old whole bytes) (Gives old.width row right)
+refuses_clash old whole free bytes row right row' right' h says none symbols s g = none symbols ((all_known-iff old whole bytes h.whole_count symbols).0 s).0 ((says symbols s).0 g)
+
+-- ---- the start
+
+pub columns_start : (n w : ℕ) → 1 ≤ w → IsColumns (nothing_known n w) (replicate n false) (replicate n true) (replicate (n * w) 0)
+columns_start n w some =
+    record {
+      some = some;
+      whole_count = length-replicate n false;
+      free_count = length-replicate n true;
+      byte_count = length-replicate (n * w) 0;
+      are_bytes = All-replicate IsByte (n * w) 0 (omega arith);
+      within = λ c e. (let lt = flag_within (replicate n false) c e in let l = length-replicate n false in absurd (let other : false ≡ true = sym (get_or-replicate n c false false (omega arith)) ∙ e in cc));
+      is_free = λ vs us s values same. record { values = values; solves = All-nil _ };
+    }
+
+pub any_at_start : (n w : ℕ) (vs : List (List ℕ)) → IsVector (IsBytes w) n vs → IsSolution gf256_product (all_known (nothing_known n w) (replicate n false) (replicate (n * w) 0)) vs
+any_at_start n w vs values =
+    (all_known-iff (nothing_known n w) (replicate n false) (replicate (n * w) 0) (length-replicate n false) vs).1 (
+      record { values = values; solves = All-nil _ },
+      λ c e. (let lt = flag_within (replicate n false) c e in let l = length-replicate n false in absurd (let other : false ≡ true = sym (get_or-replicate n c false false (omega arith)) ∙ e in cc)),
+    )
+
+-- ---- a column's bytes come
+
+module _ (known : Knowledge ℕ) (whole free : List Bool) (bytes : List ℕ) (h : IsColumns known whole free bytes) (col : ℕ) (src : List ℕ) (lt : col < known.cols) (long : length src ≡ known.width) where
+  pub columns_stored : All IsByte src → get_or free col false ≡ true → IsColumns known (set whole col true) free (put_mid (col * known.width) known.width bytes src)
+  columns_stored are_bytes is_free_here =
+      let w = known.width in
+      let room = row_within known.cols w col lt in
+      let count = h.byte_count in
+      record {
+        some = h.some;
+        whole_count = length-set whole col true ∙ h.whole_count;
+        free_count = h.free_count;
+        byte_count = length-put_mid (col * w) w bytes src (omega arith) long ∙ h.byte_count;
+        are_bytes = All-append IsByte (take (col * w) bytes) (src ++ drop w (drop (col * w) bytes)) (All-take IsByte (col * w) bytes h.are_bytes) (All-append IsByte src (drop w (drop (col * w) bytes)) are_bytes (All-drop IsByte w (drop (col * w) bytes) (All-drop IsByte (col * w) bytes h.are_bytes)));
+        within = λ c e. elim (cases_eq c col) [
+          | inl same ↦ subst (λ (x : ℕ). get_or free x false ≡ true) (sym same) is_free_here
+          | inr other ↦ h.within c (sym (get_or-set_other whole col c true false other) ∙ e)
+        ];
+        is_free = h.is_free;
+      }
+
+  pub learns_stored : get_or whole col false ≡ false → Learns (all_known known whole bytes) (all_known known (set whole col true) (put_mid (col * known.width) known.width bytes src)) (Gives known.width (set (replicate known.cols 0) col 1) src)
+  learns_stored not_yet symbols =
+      let n = known.cols in
+      let w = known.width in
+      let stored = cut n w bytes in
+      let count = h.whole_count in
+      let ls = length-cut n w bytes in
+      let stored_is : cut n w (put_mid (col * w) w bytes src) ≡ set stored col src = cut-put_mid n w bytes col src h.byte_count lt long in
+      let iff_old = all_known-iff known whole bytes h.whole_count symbols in
+      let iff_new = all_known-iff known (set whole col true) (put_mid (col * w) w bytes src) (length-set whole col true ∙ h.whole_count) symbols in
+      let differs : (c : ℕ) → get_or whole c false ≡ true → c ≢ col = λ c e same. absurd (let other : true ≡ false = sym e ∙ ap (λ (x : ℕ). get_or whole x false) same ∙ not_yet in cc) in
+      let kept : (c : ℕ) → c ≢ col → get_or (set stored col src) c [] ≡ get_or stored c [] = λ c ne. get_or-set_other stored col c src [] ne in
+      let here : get_or (set stored col src) col [] ≡ src = get_or-set_same stored col src [] (omega arith) in (
+        λ s.
+            let x = iff_new.0 s in
+            let has = subst (λ (st : List (List ℕ)). HasStored (set whole col true) st symbols) stored_is x.1 in (
+              iff_old.1 (x.0, λ c e. has c (get_or-set_other whole col c true false (differs c e) ∙ e) ∙ kept c (differs c e)),
+              unit_gives w n col symbols lt s.values.width s.values.entries ∙ has col (get_or-set_same whole col true false (omega arith)) ∙ here,
+            ),
+        λ s.
+            let x = iff_old.0 s.0 in
+            let value : get_or symbols col [] ≡ src = sym (unit_gives w n col symbols lt x.0.values.width x.0.values.entries) ∙ s.1 in
+            iff_new.1 (x.0, subst (λ (st : List (List ℕ)). HasStored (set whole col true) st symbols) (sym stored_is) (λ c e. elim (cases_eq c col) [
+              | inl same ↦ subst (λ (y : ℕ). get_or symbols y [] ≡ get_or (set stored col src) y []) (sym same) (value ∙ sym here)
+              | inr other ↦ x.1 c (sym (get_or-set_other whole col c true false other) ∙ e) ∙ sym (kept c other)
+            ])),
+      )
+
+-- ---- columns are forgotten
+
+shift_low : (flags : List Bool) (count : ℕ) (fill : Bool) (i : ℕ) → i < length flags - count → get_or (drop count flags ++ replicate count fill) i false ≡ get_or flags (count + i) false
+shift_low flags count fill i lt =
+    let l = length-drop count flags in
+    get_or_append_left (drop count flags) (replicate count fill) false i (omega arith) ∙ get_or-drop count flags i false
+
+shift_high : (flags : List Bool) (count : ℕ) (fill : Bool) (i : ℕ) → length flags - count ≤ i → i < length flags → count ≤ length flags → get_or (drop count flags ++ replicate count fill) i false ≡ fill
+shift_high flags count fill i le lt room =
+    let l = length-drop count flags in
+    get_or-append_right (drop count flags) (replicate count fill) (length flags - count) i false l le ∙ get_or-replicate count (i - (length flags - count)) fill false (omega arith)
+
+length_shift : {A : Type 0} (xs : List A) (count : ℕ) (fill : A) → count ≤ length xs → length (drop count xs ++ replicate count fill) ≡ length xs
+length_shift xs count fill le =
+    let l = length-drop count xs in
+    let r = length-replicate count fill in
+    length-append (drop count xs) (replicate count fill) ∙ omega arith
+
+-- a whole column was whole before
+shift_whole : (flags : List Bool) (count i : ℕ) → count ≤ length flags → get_or (drop count flags ++ replicate count false) i false ≡ true → (i < length flags - count) × (get_or flags (count + i) false ≡ true)
+shift_whole flags count i room e =
+    let within = flag_within (drop count flags ++ replicate count false) i e in
+    let l = length_shift flags count false room in
+    elim (cases_lt i (length flags - count)) [
+      | inl low ↦ (low, sym (shift_low flags count false i low) ∙ e)
+      | inr high ↦ absurd (let other : false ≡ true = sym (shift_high flags count false i high (omega arith) room) ∙ e in cc)
+    ]
