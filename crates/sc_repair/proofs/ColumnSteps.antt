@@ -1,9 +1,9 @@
 -- What is known of columns of which some are whole: what it is to solve it, and how it grows.
-use Rattle.std.proofs.Common.{◌≡◌, ◌≢◌, ◌⊎◌, ◌↔◌, ℕ, zero as nought, suc, ◌+◌, ◌-◌, ◌*◌, ◌<◌, ◌≤◌, Bool, true, false, cond, List, [], ◌∷◌, ◌++◌, length, get_or, map, set, take, drop, replicate, All, bit_xor, refl, sym, ap, ap₂, ◌∙◌, subst, arith, length-set, inl, inr}
+use Rattle.std.proofs.Common.{◌≡◌, ◌≢◌, ◌⊎◌, ◌↔◌, ℕ, zero as nought, suc, ◌+◌, ◌-◌, ◌*◌, ◌<◌, ◌≤◌, Bool, true, false, cond, List, [], ◌∷◌, ◌++◌, length, get_or, map, set, take, drop, replicate, All, bit_xor, Fits, w8, refl, sym, ap, ap₂, ◌∙◌, subst, arith, length-set, inl, inr}
 use Rattle.std.specs.List.{range_with_len}
 use Rattle.std.specs.Int.Bits.{xor_assoc, xor_self, xor_zero_r}
 use Rattle.std.proofs.lemmas.Bool.{cases_lt, cases_eq, cond-true, cond-false}
-use Rattle.std.proofs.lemmas.List.{length-replicate, length-map, length-append, length-take-le, length-drop, get_or-replicate, get_or-take, get_or-drop, get_or_past, get_or_default, get_or_append_left, get_or-append_right, get_or-append-add, get_or-set_same, get_or-set_other}
+use Rattle.std.proofs.lemmas.List.{length-replicate, length-map, length-append, length-take-le, length-drop, get_or-replicate, get_or-take, get_or-drop, get_or_past, get_or_default, get_or_append_left, get_or-append_right, get_or-append-add, get_or-set_same, get_or-set_other, take-append-drop, take-append-le, drop-append-le, drop-drop, ext_get_or}
 use Rattle.std.proofs.lemmas.List.Elements.{All-append, All-replicate, All-set, All-from_get_or, All-get_or, All-cons, All-head, All-tail, All-nil, All-take, All-drop}
 use Rattle.std.proofs.lemmas.List.FromFn.{length-map-range_with_len, get_or-map-range_with_len}
 use borrow.Rule.Slice.PartMut.{put_mid}
@@ -24,6 +24,10 @@ use Rattle.sc_echelon.proofs.Bytes.{bytes_module}
 use Rattle.sc_echelon.proofs.DotLaws.{dot_value, dot_none, dot_one, dot_same}
 use Rattle.sc_repair.specs.Equations.{Learns, Refuses, Gives}
 use Rattle.sc_repair.specs.Columns.{stored_row, all_known, HasStored, IsFree, IsColumns, SaysSame, TakenOut}
+
+-- bytes in hand are bytes
+pub are_bytes : (bytes : List ℕ) → ((i : ℕ) → Fits w8 (get_or bytes i 0)) → All IsByte bytes
+are_bytes bytes f = All-from_get_or IsByte bytes 0 (λ i lt. (f i).fits)
 
 cases : (b : Bool) → (b ≡ true) ⊎ (b ≡ false)
 cases true = inl refl
@@ -445,6 +449,9 @@ module _ (known : Knowledge ℕ) (whole free : List Bool) (bytes : List ℕ) (h 
 
 -- ---- columns are forgotten
 
+drop-at : (a b : ℕ) (xs : List ℕ) → drop b (drop a xs) ≡ drop (a + b) xs
+drop-at a b xs = drop-drop
+
 shift_low : (flags : List Bool) (count : ℕ) (fill : Bool) (i : ℕ) → i < length flags - count → get_or (drop count flags ++ replicate count fill) i false ≡ get_or flags (count + i) false
 shift_low flags count fill i lt =
     let l = length-drop count flags in
@@ -470,3 +477,111 @@ shift_whole flags count i room e =
       | inl low ↦ (low, sym (shift_low flags count false i low) ∙ e)
       | inr high ↦ absurd (let other : false ≡ true = sym (shift_high flags count false i high (omega arith) room) ∙ e in cc)
     ]
+
+module _ (old new : Knowledge ℕ) (whole free : List Bool) (bytes bytes' : List ℕ) (count : ℕ) (h : IsColumns old whole free bytes) (room : count ≤ old.cols) (cols : new.cols ≡ old.cols) (width : new.width ≡ old.width)
+    (forgets : Forgets gf256_product count old new) (moved : (c : ℕ) → get_or whole c false ≡ true → bytes' ≡ drop (count * old.width) bytes ++ replicate (count * old.width) 0) where
+  -- a stored byte string moves to the front
+  stored_moves : (i : ℕ) → i < old.cols - count → get_or whole (count + i) false ≡ true → get_or (cut old.cols old.width bytes') i [] ≡ get_or (cut old.cols old.width bytes) (count + i) []
+  stored_moves i lt e =
+      let n = old.cols in
+      let w = old.width in
+      let l = length-drop (count * w) bytes in
+      let long = h.byte_count in
+      let inside = row_within n w (count + i) (omega arith) in
+      let split : (count + i) * w ≡ count * w + i * w = add-mul count i w in
+      let shifted : take w (drop (i * w) (drop (count * w) bytes ++ replicate (count * w) 0)) ≡ take w (drop ((count + i) * w) bytes) =
+      ap (take w) (drop-append-le (i * w) (drop (count * w) bytes) (replicate (count * w) 0) (omega arith))
+      ∙ take-append-le w (drop (i * w) (drop (count * w) bytes)) (replicate (count * w) 0) (let l' = length-drop (i * w) (drop (count * w) bytes) in omega arith)
+      ∙ ap (take w) (drop-at (count * w) (i * w) bytes ∙ ap (λ (x : ℕ). drop x bytes) (sym split)) in
+      get_or-cut n w bytes' i [] (omega arith) ∙ ap (λ (b : List ℕ). take w (drop (i * w) b)) (moved (count + i) e) ∙ shifted
+      ∙ sym (get_or-cut n w bytes (count + i) [] (omega arith))
+
+  -- lists with some columns in front
+  module _ (us vs : List (List ℕ)) (front : IsVector (IsBytes old.width) count us) (values : IsVector (IsBytes old.width) old.cols vs) where
+    joined_vector : IsVector (IsBytes old.width) old.cols (us ++ take (old.cols - count) vs)
+    joined_vector =
+        let lf = front.width in
+        let lv = values.width in
+        let lt' = length-take-le (old.cols - count) vs (omega arith) in
+        record {
+          width = length-append us (take (old.cols - count) vs) ∙ omega arith;
+          entries = All-append (IsBytes old.width) us (take (old.cols - count) vs) front.entries (All-take (IsBytes old.width) (old.cols - count) vs values.entries);
+        }
+
+    joined_front : (c : ℕ) → c < count → get_or (us ++ take (old.cols - count) vs) c [] ≡ get_or us c []
+    joined_front c lt = (let lf = front.width in get_or_append_left us (take (old.cols - count) vs) [] c (omega arith))
+
+    joined_rest : (c : ℕ) → count ≤ c → c < old.cols → get_or (us ++ take (old.cols - count) vs) c [] ≡ get_or vs (c - count) []
+    joined_rest c le lt = get_or-append_right us (take (old.cols - count) vs) count c [] front.width le ∙ get_or-take (old.cols - count) vs (c - count) [] (omega arith)
+
+  free_forgotten : IsFree new (drop count free ++ replicate count true)
+  free_forgotten vs us s values same =
+      let n = old.cols in
+      let w = old.width in
+      let to_old : (x : List (List ℕ)) → IsVector (IsBytes new.width) new.cols x → IsVector (IsBytes w) n x = λ x v. subst (λ (y : ℕ). IsVector (IsBytes y) n x) width (subst (λ (y : ℕ). IsVector (IsBytes new.width) y x) cols v) in
+      let vv = to_old vs s.values in
+      let vu = to_old us values in
+      let f = (forgets vs vv).0 s in
+      let lf = h.free_count in
+      (forgets us vu).1 (f.0, f.1, h.is_free (f.0 ++ take (n - count) vs) (f.0 ++ take (n - count) us) f.2 (joined_vector f.0 us f.1 vu) (λ c lt e. elim (cases_lt c count) [
+        | inl low ↦ joined_front f.0 us f.1 vu c low ∙ sym (joined_front f.0 vs f.1 vv c low)
+        | inr high ↦
+            let at : count + (c - count) ≡ c = omega arith in
+            joined_rest f.0 us f.1 vu c high lt
+            ∙ same (c - count) (omega arith) (shift_low free count true (c - count) (omega arith) ∙ ap (λ (x : ℕ). get_or free x false) at ∙ e)
+            ∙ sym (joined_rest f.0 vs f.1 vv c high lt)
+      ]))
+
+  pub columns_forgotten : length bytes' ≡ length bytes → All IsByte bytes' → IsColumns new (drop count whole ++ replicate count false) (drop count free ++ replicate count true) bytes'
+  columns_forgotten same_length bytes_ok =
+      let lw = h.whole_count in
+      let lf = h.free_count in
+      record {
+        some = (let s = h.some in omega arith);
+        whole_count = length_shift whole count false (omega arith) ∙ h.whole_count ∙ sym cols;
+        free_count = length_shift free count true (omega arith) ∙ h.free_count ∙ sym cols;
+        byte_count = same_length ∙ h.byte_count ∙ ap₂ (λ (a b : ℕ). a * b) (sym cols) (sym width);
+        are_bytes = bytes_ok;
+        within = λ c e. (let x = shift_whole whole count c (omega arith) e in shift_low free count true c (let lt = x.0 in omega arith) ∙ h.within (count + c) x.1);
+        is_free = free_forgotten;
+      }
+
+  pub all_forgotten : Forgets gf256_product count (all_known old whole bytes) (all_known new (drop count whole ++ replicate count false) bytes')
+  all_forgotten vs values =
+      let n = old.cols in
+      let w = old.width in
+      let whole' = drop count whole ++ replicate count false in
+      let stored = cut n w bytes in
+      let lw = h.whole_count in
+      let lv = values.width in
+      let iff_new = all_known-iff new whole' bytes' (length_shift whole count false (omega arith) ∙ h.whole_count ∙ sym cols) vs in
+      let stored_is : cut new.cols new.width bytes' ≡ cut n w bytes' = ap₂ (λ (a b : ℕ). cut a b bytes') cols width in (
+        λ s.
+            let x = iff_new.0 s in
+            let has = subst (λ (st : List (List ℕ)). HasStored whole' st vs) stored_is x.1 in
+            let f = (forgets vs values).0 x.0 in
+            let list = f.0 ++ take (n - count) vs in
+            let z = overlay whole stored list n in
+            let zs = whole_put_in old whole free bytes h list f.2 in
+            let lz : length z ≡ n = zs.values.width in
+            let ld : length (drop count z) ≡ n - count = length-drop count z ∙ ap (λ (x : ℕ). x - count) lz in
+            let rest : drop count z ≡ take (n - count) vs =
+            ext_get_or [] (drop count z) (take (n - count) vs) (ld ∙ sym (length-take-le (n - count) vs (omega arith))) (λ i lt.
+            let low : i < n - count = omega arith in
+            let back : count + i - count ≡ i = omega arith in
+            let there : get_or list (count + i) [] ≡ get_or vs i [] = joined_rest f.0 vs f.1 values (count + i) (omega arith) (omega arith) ∙ ap (λ (x : ℕ). get_or vs x []) back in
+            get_or-drop count z i [] ∙ elim (cases (get_or whole (count + i) false)) [
+              | inl e ↦ overlay_whole whole stored list n (count + i) (omega arith) e ∙ sym (stored_moves i low e) ∙ sym (has i (shift_low whole count false i (omega arith) ∙ e)) ∙ sym (get_or-take (n - count) vs i [] low)
+              | inr e ↦ overlay_other whole stored list n (count + i) (omega arith) e ∙ there ∙ sym (get_or-take (n - count) vs i [] low)
+            ]) in
+            let joined : z ≡ take count z ++ take (n - count) vs = sym (take-append-drop count z) ∙ ap (λ (y : List (List ℕ)). take count z ++ y) rest in
+            (take count z, record { width = length-take-le count z (omega arith); entries = All-take (IsBytes w) count z zs.values.entries }, subst (λ (y : List (List ℕ)). IsSolution gf256_product (all_known old whole bytes) y) joined zs),
+        λ s.
+            let us = s.0 in
+            let x = (all_known-iff old whole bytes h.whole_count (us ++ take (n - count) vs)).0 s.2 in
+            iff_new.1 ((forgets vs values).1 (us, s.1, x.0), subst (λ (st : List (List ℕ)). HasStored whole' st vs) (sym stored_is) (λ i e.
+            let y = shift_whole whole count i (omega arith) e in
+            let low : i < n - count = (let lt = y.0 in omega arith) in
+            let back : count + i - count ≡ i = omega arith in
+            sym (ap (λ (v : ℕ). get_or vs v []) back) ∙ sym (joined_rest us vs s.1 values (count + i) (omega arith) (omega arith)) ∙ x.1 (count + i) y.1 ∙ sym (stored_moves i low y.1))),
+      )
