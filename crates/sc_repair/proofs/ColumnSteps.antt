@@ -1,5 +1,5 @@
 -- What is known of columns of which some are whole: what it is to solve it, and how it grows.
-use Rattle.std.proofs.Common.{◌≡◌, ◌≢◌, ◌⊎◌, ◌↔◌, ℕ, zero as nought, suc, ◌+◌, ◌-◌, ◌*◌, ◌<◌, ◌≤◌, Bool, true, false, cond, List, [], ◌∷◌, ◌++◌, length, get_or, map, set, take, drop, replicate, All, bit_xor, Fits, w8, refl, sym, ap, ap₂, ◌∙◌, subst, arith, length-set, inl, inr}
+use Rattle.std.proofs.Common.{◌≡◌, ◌≢◌, ◌⊎◌, ◌↔◌, ℕ, zero as nought, suc, ◌+◌, ◌-◌, ◌*◌, ◌<◌, ◌≤◌, Bool, true, false, cond, List, [], ◌∷◌, ◌++◌, length, get_or, map, set, take, drop, replicate, All, bit_xor, Fits, w8, refl, sym, ap, ap₂, ◌∙◌, subst, arith, length-set, add-mul, inl, inr}
 use Rattle.std.specs.List.{range_with_len}
 use Rattle.std.specs.Int.Bits.{xor_assoc, xor_self, xor_zero_r}
 use Rattle.std.proofs.lemmas.Bool.{cases_lt, cases_eq, cond-true, cond-false}
@@ -450,7 +450,7 @@ module _ (known : Knowledge ℕ) (whole free : List Bool) (bytes : List ℕ) (h 
 -- ---- columns are forgotten
 
 drop-at : (a b : ℕ) (xs : List ℕ) → drop b (drop a xs) ≡ drop (a + b) xs
-drop-at a b xs = drop-drop
+drop-at a b xs = drop-drop b a xs
 
 shift_low : (flags : List Bool) (count : ℕ) (fill : Bool) (i : ℕ) → i < length flags - count → get_or (drop count flags ++ replicate count fill) i false ≡ get_or flags (count + i) false
 shift_low flags count fill i lt =
@@ -462,7 +462,7 @@ shift_high flags count fill i le lt room =
     let l = length-drop count flags in
     get_or-append_right (drop count flags) (replicate count fill) (length flags - count) i false l le ∙ get_or-replicate count (i - (length flags - count)) fill false (omega arith)
 
-length_shift : {A : Type 0} (xs : List A) (count : ℕ) (fill : A) → count ≤ length xs → length (drop count xs ++ replicate count fill) ≡ length xs
+pub length_shift : {A : Type 0} (xs : List A) (count : ℕ) (fill : A) → count ≤ length xs → length (drop count xs ++ replicate count fill) ≡ length xs
 length_shift xs count fill le =
     let l = length-drop count xs in
     let r = length-replicate count fill in

@@ -1,5 +1,5 @@
 //! What is known of the columns of symbols: the bytes of those that came, and what equations say of the others.
-ghost use Rattle.std.specs.Prelude.{◌≡◌, ◌+◌, ◌*◌, ◌<◌, ◌≤◌, ◌++◌, ℕ, List, IfOk, MatchOption, All, true, false, length, drop, replicate, slice_index_or, slice_set};
+ghost use Rattle.std.specs.Prelude.{◌≡◌, ◌+◌, ◌*◌, ◌<◌, ◌≤◌, ◌++◌, ◌⊎◌, ℕ, List, IfOk, MatchOption, All, true, false, length, drop, replicate, slice_index_or, slice_set};
 ghost use borrow.Rule.Slice.PartMut.{put_mid};
 ghost use Rattle.sc_field.specs.Gf256.{gf256_product};
 ghost use Rattle.sc_field.specs.Scale.{scaled_sum};
@@ -298,6 +298,7 @@ fn has_one(flags: &[bool]) -> bool
 fn shift_stored(whole: &[bool], bytes: &mut [u8], count: usize)
     requires { count ≤ length bytes.old }
     ensures count { length bytes.new ≡ length bytes.old }
+    ensures either { (bytes.new ≡ bytes.old) ⊎ (bytes.new ≡ drop count bytes.old ++ replicate count 0) }
     ensures moved { (c : ℕ) → slice_index_or whole.now c false ≡ true → bytes.new ≡ drop count bytes.old ++ replicate count 0 }
 {
     if has_one(whole) {
