@@ -6,7 +6,7 @@ use Rattle.sc_matrix.specs.Module.{IsByte}
 use Rattle.sc_matrix.specs.Vector.{IsVector}
 use Rattle.sc_matrix.specs.Layout.{cut}
 use Rattle.sc_matrix.proofs.LayoutLaws.{length-cut}
-use Rattle.sc_echelon.specs.Knowledge.{Knowledge, IsSolution, Forgets, nothing_known}
+use Rattle.sc_echelon.specs.Knowledge.{Knowledge, IsSolution, IsBytes, Forgets}
 use Rattle.sc_code.specs.Stream.{IsBlock, block_at}
 use Rattle.sc_slots.specs.Taken.{Taken, one_past, claimed, claimed_or, known_end}
 use Rattle.sc_slots.specs.Repair.{IsRecovered, IsSettledAs, IsMissed, IsSettled, IsClash}
@@ -24,13 +24,13 @@ use Rattle.sc_repair.proofs.StandsSteps.{history_at_start, history_given_up, his
 
 -- ---- start
 
-pub Stands-start : (k r memory deadline m : ℕ) (known : Knowledge ℕ) (block : List ℕ) → known ≡ nothing_known (places_for memory deadline * k) m → Stands (kept_by k r memory deadline m 0 0 0 0 0 false false known block) []
-Stands-start k r memory deadline m known block e =
+pub Stands-start : (k r memory deadline m : ℕ) (known : Knowledge ℕ) (block : List ℕ) → ((symbols : List (List ℕ)) → IsVector (IsBytes m) (places_for memory deadline * k) symbols → IsSolution gf256_product known symbols) → Stands (kept_by k r memory deadline m 0 0 0 0 0 false false known block) []
+Stands-start k r memory deadline m known block any =
     record {
       put = 0;
       put_before = omega arith;
       is_put = λ x. refl;
-      history = history_at_start deadline memory k m (places_for memory deadline) known e;
+      history = history_at_start deadline memory k m (places_for memory deadline) known any;
       past = refl;
       has_end = (refl, refl);
       fitting = λ i d lt. absurd (omega arith);

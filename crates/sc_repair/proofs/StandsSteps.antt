@@ -3,13 +3,12 @@ use Rattle.std.proofs.Common.{◌≡◌, ℕ, ◌+◌, ◌-◌, ◌*◌, ◌<◌
 use Rattle.std.proofs.lemmas.Bool.{cases_lt, cond-true, cond-false, eq-eqb, ne_eqb}
 use Rattle.std.proofs.lemmas.List.{length-append, get_or_append_left, get_or_at, take-append-le, take_at}
 use Rattle.std.proofs.Math.Nat.{mul_comm, mul-sub}
-use Rattle.std.proofs.lemmas.List.Elements.{All-nil}
 use Rattle.sc_field.specs.Laws.Gf256Laws.{gf256_field, gf256_action}
 use Rattle.sc_field.specs.Gf256.{gf256_product}
 use Rattle.sc_matrix.specs.Module.{IsByte}
 use Rattle.sc_matrix.specs.Vector.{IsVector}
 use Rattle.sc_matrix.specs.Layout.{cut}
-use Rattle.sc_echelon.specs.Knowledge.{Knowledge, IsSolution, IsBytes, Forgets, nothing_known}
+use Rattle.sc_echelon.specs.Knowledge.{Knowledge, IsSolution, IsBytes, Forgets}
 use Rattle.sc_code.specs.Code.{IsCode}
 use Rattle.sc_code.specs.Stream.{IsBlock, IsStream}
 use Rattle.sc_slots.specs.Taken.{Taken, HasFittingEnd, source, first_claim, same_claim, HaveFittingEnds, least_end}
@@ -35,20 +34,15 @@ as_values : (m n cols w : ℕ) (symbols : List (List ℕ)) → cols ≡ n → w 
 as_values m n cols w symbols ec ew e h =
     subst (λ (x : ℕ). IsVector (IsBytes x) cols symbols) (sym ew) (record { width = e ∙ sym ec; entries = h })
 
--- nothing is known: every list is a solution
-any_solves : (known : Knowledge ℕ) (m n : ℕ) → known ≡ nothing_known n m → (symbols : List (List ℕ)) → length symbols ≡ n → All (IsVector IsByte m) symbols → IsSolution gf256_product known symbols
-any_solves known m n e symbols count h =
-    subst (λ (k : Knowledge ℕ). IsSolution gf256_product k symbols) (sym e) (record { values = record { width = count; entries = h }; solves = All-nil _ })
-
 module _ (deadline memory : ℕ) where
   -- ---- at the start
 
-  pub history_at_start : (k m n : ℕ) (known : Knowledge ℕ) → known ≡ nothing_known (n * k) m → IsHistory 0 gf256_product k m deadline memory [] 0 0 (0 + n) 0 (HasSymbolsIn k m n (IsSolution gf256_product known))
-  history_at_start k m n known e =
+  pub history_at_start : (k m n : ℕ) (known : Knowledge ℕ) → ((symbols : List (List ℕ)) → IsVector (IsBytes m) (n * k) symbols → IsSolution gf256_product known symbols) → IsHistory 0 gf256_product k m deadline memory [] 0 0 (0 + n) 0 (HasSymbolsIn k m n (IsSolution gf256_product known))
+  history_at_start k m n known any =
       let place : n ≡ 0 + n = omega arith in
       subst (λ (v : ℕ). IsHistory 0 gf256_product k m deadline memory [] 0 0 v 0 (HasSymbolsIn k m n (IsSolution gf256_product known))) place
       (IsHistory-same 0 gf256_product k m deadline memory [] 0 0 n 0 (λ blocks. IsStream k m blocks × (length blocks ≡ n)) (HasSymbolsIn k m n (IsSolution gf256_product known))
-      (HasSymbolsIn-any k m n (IsSolution gf256_product known) (λ symbols. any_solves known m (n * k) e symbols))
+      (HasSymbolsIn-any k m n (IsSolution gf256_product known) (λ symbols count h. any symbols (record { width = count; entries = h })))
       (IsHistory-start 0 gf256_product k m deadline memory n))
 
   -- ---- places are given up

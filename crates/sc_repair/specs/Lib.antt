@@ -1,6 +1,7 @@
 pub mod Repairer
 pub mod Stands
 pub mod Equations
+pub mod Columns
 pub mod Fit
 pub mod Takes
 pub mod Values

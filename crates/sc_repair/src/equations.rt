@@ -1,5 +1,5 @@
 //! The equations of a taken slot: the symbols of its block, and its parity as sums over the kept blocks.
-ghost use Rattle.std.specs.Prelude.{◌≡◌, ◌+◌, ◌-◌, ◌*◌, ◌<◌, ◌≤◌, ℕ, List, true, false, length, replicate, map, slice_index_or, nat_le, if◌then◌else◌};
+ghost use Rattle.std.specs.Prelude.{◌≡◌, ◌+◌, ◌-◌, ◌*◌, ◌<◌, ◌≤◌, ℕ, List, true, false, length, replicate, map, slice_index_or, slice_set, nat_le, if◌then◌else◌};
 ghost use Rattle.std.specs.List.{range_with_len};
 ghost use Rattle.sc_field.specs.Gf256.{gf256_product};
 ghost use Rattle.sc_code.specs.Code.{Code as CodeOf, IsCode, coefficient};
@@ -7,25 +7,9 @@ ghost use Rattle.sc_echelon.specs.Knowledge.{IsSolution};
 ghost use Rattle.sc_slots.specs.Rows.{symbol_row, parity_row};
 ghost use Rattle.sc_repair.specs.Equations.{AreOpenFrom, FindsLeft, Gives, HasParities, HasSymbols, IsBlockAt, IsOpenPlace, Learns, LearnsSlot, Refuses, RefusesSlot};
 
+use super::columns::Columns;
 use sc_code::ByteCode;
-use sc_echelon::{Added, Knowledge};
 use sc_field::{Field, Gf256};
-
-// Adds an equation. False exactly where no solution meets it; then nothing changes.
-fn learn_row(known: &mut Knowledge<Gf256>, row: &[Gf256], right: &[u8]) -> bool
-    requires coeffs { length row.now ≡ known.old.cols }
-    requires right { length right.now ≡ known.old.width }
-    ensures cols { known.new.cols ≡ known.old.cols }
-    ensures width { known.new.width ≡ known.old.width }
-    ensures learns { result ≡ true → Learns known.old known.new (Gives known.old.width row.now right.now) }
-    ensures refuses { result ≡ false → Refuses known.old (Gives known.old.width row.now right.now) }
-{
-    match known.add_row(row, right) {
-        Added::New => true,
-        Added::Known => true,
-        Added::Clash => false,
-    }
-}
 
 // Makes all coefficients zero.
 fn clear_row(row: &mut [Gf256])
@@ -36,9 +20,28 @@ fn clear_row(row: &mut [Gf256])
     }
 }
 
+// Adds that a column has these bytes. False exactly where no solution has them.
+fn learn_symbol(known: &mut Columns, row: &mut [Gf256], col: usize, bytes: &[u8]) -> bool
+    requires col { col < known.old.cols }
+    requires row { length row.old ≡ known.old.cols }
+    requires bytes { length bytes.now ≡ known.old.width }
+    ensures row { length row.new ≡ length row.old }
+    ensures cols { known.new.cols ≡ known.old.cols }
+    ensures width { known.new.width ≡ known.old.width }
+    ensures learns { result ≡ true → Learns known.old known.new (Gives known.old.width (slice_set (replicate known.old.cols 0) col 1) bytes.now) }
+    ensures refuses { result ≡ false → Refuses known.old (Gives known.old.width (slice_set (replicate known.old.cols 0) col 1) bytes.now) }
+{
+    if known.store(col, bytes) {
+        return true;
+    }
+    clear_row(row);
+    row[col] = Gf256::one();
+    known.add_row(row, bytes)
+}
+
 // Adds the symbols of the block at a place of `places`. False where some symbol contradicts what is known.
 pub(crate) fn learn_block(
-    known: &mut Knowledge<Gf256>,
+    known: &mut Columns,
     row: &mut [Gf256],
     k: usize,
     m: usize,
@@ -60,13 +63,8 @@ pub(crate) fn learn_block(
     ensures learns { result ≡ true → Learns known.old known.new (HasSymbols k m places place k block.now) }
     ensures refuses { result ≡ false → Refuses known.old (HasSymbols k m places place k block.now) }
 {
-    clear_row(row);
     for i in 0..k {
-        let at = place * k + i;
-        row[at] = Gf256::one();
-        let learned = learn_row(known, row, &block[i * m..i * m + m]);
-        row[at] = Gf256::zero();
-        if !learned {
+        if !learn_symbol(known, row, place * k + i, &block[i * m..i * m + m]) {
             return false;
         }
     }
@@ -112,7 +110,7 @@ fn write_parity_row(row: &mut [Gf256], code: &ByteCode, places: usize, place: us
 
 // Adds the parity of the slot at a place of `places`. False where some symbol of it contradicts what is known.
 pub(crate) fn learn_parity(
-    known: &mut Knowledge<Gf256>,
+    known: &mut Columns,
     row: &mut [Gf256],
     code: &ByteCode,
     m: usize,
@@ -133,7 +131,7 @@ pub(crate) fn learn_parity(
 {
     for j in 0..code.r() {
         write_parity_row(row, code, places, place, j);
-        if !learn_row(known, row, &parity[j * m..j * m + m]) {
+        if !known.add_row(row, &parity[j * m..j * m + m]) {
             return false;
         }
     }
@@ -142,7 +140,7 @@ pub(crate) fn learn_parity(
 
 // Writes the block at a place. False exactly where two solutions differ in a symbol of it.
 pub(crate) fn read_block(
-    known: &Knowledge<Gf256>,
+    known: &Columns,
     k: usize,
     m: usize,
     place: usize,
@@ -171,7 +169,7 @@ pub(crate) fn read_block(
 // Adds the equations of the slot at a place of `places`. False where no solution meets all of them; then some may have been
 // added.
 pub(crate) fn learn_slot(
-    known: &mut Knowledge<Gf256>,
+    known: &mut Columns,
     row: &mut [Gf256],
     code: &ByteCode,
     m: usize,
@@ -204,7 +202,7 @@ pub(crate) fn learn_slot(
 
 // Of the slots from `from` up to `to`, the first whose block is known, which is written, or that lies below the end.
 pub(crate) fn find_left(
-    known: &Knowledge<Gf256>,
+    known: &Columns,
     k: usize,
     m: usize,
     front: u32,

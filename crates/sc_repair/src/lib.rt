@@ -1,6 +1,7 @@
 //! The repairer: what the slots of a protected stream that arrived determine of its blocks, given out in time.
 #![tactic(auto)]
 
+mod columns;
 mod equations;
 mod laws;
 mod put;

@@ -15,9 +15,9 @@ ghost use Rattle.sc_repair.specs.Stands.{IsLeft, IsNext, OutCounts, Stands};
 ghost use Rattle.sc_repair.specs.Takes.{TakeCounts, Takes};
 ghost use Rattle.sc_repair.specs.Fit.{FitGives, end_so_far};
 
+use super::columns::Columns;
 use super::equations::{find_left, learn_slot, read_block};
 use sc_code::ByteCode;
-use sc_echelon::Knowledge;
 use sc_field::{Field, Gf256};
 use sc_outside::NoMemory;
 use sc_slots::Slot;
@@ -97,7 +97,7 @@ pub struct Repairer {
     // The end that is claimed, or else one above the greatest source slot taken, or 0.
     end: u32,
     finished: bool,
-    known: Knowledge<Gf256>,
+    known: Columns,
     // Room for the coefficients of one equation, and for one block.
     row: Vec<Gf256>,
     block: Vec<u8>,
@@ -136,7 +136,7 @@ impl Repairer {
         let memory = code.memory();
         let places = memory.max(deadline as usize) + 1;
         let width = usize::from(m);
-        let known = Knowledge::start(alloc, places * k, width)?;
+        let known = Columns::start(alloc, places * k, width)?;
         let row = vec![in alloc; Gf256::zero(); places * k]?;
         let block = vec![in alloc; 0; k * width]?;
         Ok(Repairer {

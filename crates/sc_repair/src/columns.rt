@@ -1,0 +1,317 @@
+//! What is known of the columns of symbols: the bytes of those that came, and what equations say of the others.
+ghost use Rattle.std.specs.Prelude.{◌≡◌, ◌+◌, ◌*◌, ◌<◌, ◌≤◌, ◌++◌, ◌⊎◌, ℕ, List, IfOk, MatchOption, All, true, false, length, drop, replicate, slice_index_or, slice_set};
+ghost use borrow.Rule.Slice.PartMut.{put_mid};
+ghost use Rattle.sc_field.specs.Gf256.{gf256_product};
+ghost use Rattle.sc_field.specs.Scale.{scaled_sum};
+ghost use Rattle.sc_matrix.specs.Module.{IsByte};
+ghost use Rattle.sc_matrix.specs.Vector.{IsVector};
+ghost use Rattle.sc_matrix.specs.Layout.{cut};
+ghost use Rattle.sc_echelon.specs.Knowledge.{IsSolution, IsBytes, IsValueAt, IsOpenAt, Forgets, zero_bytes};
+ghost use Rattle.sc_repair.specs.Equations.{Gives, Learns, Refuses};
+ghost use Rattle.sc_repair.specs.Columns.{IsColumns, SaysSame, all_known};
+
+use sc_echelon::{Added, Knowledge};
+use sc_field::{Field, Gf256, Multiplier, element_of, scale_add};
+use sc_outside::NoMemory;
+use std::alloc::Global;
+use std::marker::Model;
+
+// What is known of columns of byte strings, as of a `Knowledge`. The columns whose bytes came are kept apart, so that nothing
+// is cleared by them: an equation is told of the other columns alone.
+#[derive(Drop)]
+pub(crate) struct Columns {
+    known: Knowledge<Gf256>,
+    // Whether the bytes of a column came. Then they stand in `bytes`.
+    whole: Vec<bool>,
+    // Whether no equation says anything of a column.
+    free: Vec<bool>,
+    bytes: Vec<u8>,
+    // Room for a right side.
+    sum: Vec<u8>,
+    made: Vec<Multiplier<Gf256>>,
+}
+
+impl Model for Columns {
+    ghost use Rattle.std.specs.Prelude.{ℕ};
+    ghost use Rattle.std.specs.Coded.{coded_ℕ};
+    ghost use Rattle.sc_echelon.specs.Knowledge.{Knowledge as Known};
+    ghost use Rattle.sc_echelon.specs.Kept.{knowledge_code};
+    ghost use Rattle.sc_repair.specs.Columns.{all_known, IsRoomyColumns};
+
+    ghost Value = { Known ℕ };
+
+    ghost coded = { knowledge_code coded_ℕ };
+
+    ghost view = { λ s. all_known s.known s.whole.items s.bytes.items };
+
+    ghost invariant = { λ s. IsRoomyColumns s.known s.whole.items s.free.items s.bytes.items s.sum.items };
+}
+
+impl Columns {
+    // Nothing is known of `cols` columns of `width` bytes.
+    pub(crate) fn start(alloc: Global, cols: usize, width: usize) -> Result<Columns, NoMemory>
+        requires cols { cols ≤ 6615 }
+        requires width { 1 ≤ width }
+        requires small { cols * width ≤ 67108864 }
+        ensures cols { IfOk result (λ k. k.cols ≡ cols) }
+        ensures width { IfOk result (λ k. k.width ≡ width) }
+        ensures any { IfOk result (λ k. (vs : List (List ℕ)) → IsVector (IsBytes width) cols vs → IsSolution gf256_product k vs) }
+    {
+        let known = Knowledge::start(alloc, cols, width)?;
+        let whole = vec![in alloc; false; cols]?;
+        let free = vec![in alloc; true; cols]?;
+        let bytes = vec![in alloc; 0; cols * width]?;
+        let sum = vec![in alloc; 0; width]?;
+        let mut made = vec![in alloc; Multiplier::new(Gf256::zero()); 256]?;
+        make_all(made.as_mut_slice());
+        Ok(Columns {
+            known,
+            whole,
+            free,
+            bytes,
+            sum,
+            made,
+        })
+    }
+
+    // Does nothing. Its contract tells a proof that a value in hand has a solution.
+    pub(crate) fn known(&self)
+        ensures solvable { (vs : List (List ℕ)) × IsSolution gf256_product self.now vs }
+        ensures width { 1 ≤ self.now.width }
+    {
+        self.known.known();
+    }
+
+    // Adds an equation, whose coefficients are lost. False exactly where no solution meets it; then nothing else changes.
+    pub(crate) fn add_row(&mut self, row: &mut [Gf256], right: &[u8]) -> bool
+        requires row { length row.old ≡ self.old.cols }
+        requires right { length right.now ≡ self.old.width }
+        ensures row { length row.new ≡ length row.old }
+        ensures cols { self.new.cols ≡ self.old.cols }
+        ensures width { self.new.width ≡ self.old.width }
+        ensures learns { result ≡ true → Learns self.old self.new (Gives self.old.width row.old right.now) }
+        ensures refuses { result ≡ false → Refuses self.old (Gives self.old.width row.old right.now) }
+    {
+        let sum = self.sum.as_mut_slice();
+        sum.copy_from_slice(right);
+        add_rest(
+            &mut self.known,
+            self.whole.as_slice(),
+            self.free.as_mut_slice(),
+            self.bytes.as_slice(),
+            self.made.as_slice(),
+            row,
+            sum,
+        )
+    }
+
+    // Stores the bytes of a column of which nothing is known. False where something is; then nothing changes.
+    pub(crate) fn store(&mut self, col: usize, bytes: &[u8]) -> bool
+        requires col { col < self.old.cols }
+        requires bytes { length bytes.now ≡ self.old.width }
+        ensures cols { self.new.cols ≡ self.old.cols }
+        ensures width { self.new.width ≡ self.old.width }
+        ensures stores { result ≡ true → Learns self.old self.new (Gives self.old.width (slice_set (replicate self.old.cols 0) col 1) bytes.now) }
+        ensures stays { result ≡ false → self.new ≡ self.old }
+    {
+        if self.whole[col] || !self.free[col] {
+            return false;
+        }
+        let m = self.known.width();
+        self.whole[col] = true;
+        write_at(self.bytes.as_mut_slice(), col * m, bytes);
+        true
+    }
+
+    // The bytes that every solution has at column `col`. None exactly where two solutions differ there.
+    pub(crate) fn value_of(&self, col: usize) -> Option<&[u8]>
+        requires { col < self.now.cols }
+        ensures { MatchOption result (IsOpenAt gf256_product self.now col) (λ bytes. IsValueAt gf256_product self.now col bytes.now) }
+    {
+        if self.whole[col] {
+            let m = self.known.width();
+            return Some(&self.bytes.as_slice()[col * m..col * m + m]);
+        }
+        self.known.value_of(col)
+    }
+
+    // Forgets the first `count` columns, as a `Knowledge` does.
+    pub(crate) fn forget_front(&mut self, count: usize)
+        requires { count ≤ self.old.cols }
+        ensures cols { self.new.cols ≡ self.old.cols }
+        ensures width { self.new.width ≡ self.old.width }
+        ensures solutions { Forgets gf256_product count self.old self.new }
+    {
+        let m = self.known.width();
+        shift_stored(self.whole.as_slice(), self.bytes.as_mut_slice(), count * m);
+        shift_flags(self.whole.as_mut_slice(), count, false);
+        shift_flags(self.free.as_mut_slice(), count, true);
+        self.known.forget_front(count);
+    }
+}
+
+// Writes to each place the multiplier of the element of that number.
+fn make_all(made: &mut [Multiplier<Gf256>]) {
+    for i in 0..made.len() {
+        if i < 256 {
+            made[i] = Multiplier::new(element_of(i as u8));
+        }
+    }
+}
+
+// Adds `c` times `src`, by the multiplier that was made for it.
+fn add_product(made: &[Multiplier<Gf256>], c: Gf256, sum: &mut [u8], src: &[u8])
+    requires { length src.now ≡ length sum.old }
+    ensures { sum.new ≡ scaled_sum (gf256_product c) sum.old src.now }
+{
+    let place = c.number() as usize;
+    if place < made.len() && made[place].coefficient == c {
+        made[place].scale_add(sum, src);
+    } else {
+        scale_add(sum, c, src);
+    }
+}
+
+// Takes the whole columns out of an equation: what they come to goes to its right side.
+fn take_out(
+    made: &[Multiplier<Gf256>],
+    whole: &[bool],
+    bytes: &[u8],
+    row: &mut [Gf256],
+    sum: &mut [u8],
+)
+    requires flags { length whole.now ≡ length row.old }
+    requires bytes { length bytes.now ≡ length row.old * length sum.old }
+    ensures row { length row.new ≡ length row.old }
+    ensures sum { length sum.new ≡ length sum.old }
+    ensures elements { All IsByte row.old }
+    ensures rest { All IsByte row.new }
+    ensures out { (c : ℕ) → slice_index_or whole.now c false ≡ true → slice_index_or row.new c 0 ≡ 0 }
+    ensures same { SaysSame whole.now (cut (length row.old) (length sum.old) bytes.now) (length sum.old) row.old sum.old row.new sum.new }
+{
+    let m = sum.len();
+    for c in 0..row.len() {
+        let x = row[c];
+        x.known();
+        if whole[c] {
+            add_product(made, x, sum, &bytes[c * m..c * m + m]);
+            row[c] = Gf256::zero();
+        }
+    }
+}
+
+// Notes that an equation says something of the columns with a coefficient that isn't zero. False where there is none.
+fn touch(free: &mut [bool], row: &[Gf256]) -> bool
+    requires { length free.old ≡ length row.now }
+    ensures count { length free.new ≡ length free.old }
+    ensures free { (c : ℕ) → slice_index_or free.new c false ≡ true → (slice_index_or free.old c false ≡ true) × (slice_index_or row.now c 0 ≡ 0) }
+    ensures kept { (c : ℕ) → slice_index_or free.old c false ≡ true → slice_index_or row.now c 0 ≡ 0 → slice_index_or free.new c false ≡ true }
+    ensures none { result ≡ false → (c : ℕ) → c < length row.now → slice_index_or row.now c 0 ≡ 0 }
+{
+    let mut touched = false;
+    for c in 0..row.len() {
+        if row[c] != Gf256::zero() {
+            free[c] = false;
+            touched = true;
+        }
+    }
+    touched
+}
+
+fn is_zero(bytes: &[u8]) -> bool
+    ensures yes { result ≡ true → bytes.now ≡ zero_bytes (length bytes.now) }
+    ensures no { result ≡ false → bytes.now ≡ zero_bytes (length bytes.now) → ⊥ }
+{
+    for i in 0..bytes.len() {
+        if bytes[i] != 0 {
+            return false;
+        }
+    }
+    true
+}
+
+// Adds an equation, of which `sum` is the right side. Both are lost.
+fn add_rest(
+    known: &mut Knowledge<Gf256>,
+    whole: &[bool],
+    free: &mut [bool],
+    bytes: &[u8],
+    made: &[Multiplier<Gf256>],
+    row: &mut [Gf256],
+    sum: &mut [u8],
+) -> bool
+    requires columns { IsColumns known.old whole.now free.old bytes.now }
+    requires row { length row.old ≡ known.old.cols }
+    requires sum { length sum.old ≡ known.old.width }
+    ensures row { length row.new ≡ length row.old }
+    ensures sum { length sum.new ≡ length sum.old }
+    ensures free { length free.new ≡ length free.old }
+    ensures columns { IsColumns known.new whole.now free.new bytes.now }
+    ensures cols { known.new.cols ≡ known.old.cols }
+    ensures width { known.new.width ≡ known.old.width }
+    ensures learns { result ≡ true → Learns (all_known known.old whole.now bytes.now) (all_known known.new whole.now bytes.now) (Gives known.old.width row.old sum.old) }
+    ensures refuses { result ≡ false → Refuses (all_known known.old whole.now bytes.now) (Gives known.old.width row.old sum.old) }
+{
+    take_out(made, whole, bytes, row, sum);
+    if !touch(free, row) {
+        return is_zero(sum);
+    }
+    match known.add_row(row, sum) {
+        Added::New => true,
+        Added::Known => true,
+        Added::Clash => false,
+    }
+}
+
+// Writes some bytes at a place.
+fn write_at(bytes: &mut [u8], at: usize, src: &[u8])
+    requires { at + length src.now ≤ length bytes.old }
+    ensures { bytes.new ≡ put_mid at (length src.now) bytes.old src.now }
+{
+    let end = at + src.len();
+    bytes[at..end].copy_from_slice(src);
+}
+
+// Moves the flags behind the first `count` to the front, and writes as many behind them.
+fn shift_flags(flags: &mut [bool], count: usize, fill: bool)
+    requires { count ≤ length flags.old }
+    ensures { flags.new ≡ drop count flags.old ++ replicate count fill }
+{
+    let kept = flags.len() - count;
+    flags.copy_within(count.., 0);
+    flags[kept..].fill(fill);
+}
+
+// Whether a flag is set.
+fn has_one(flags: &[bool]) -> bool
+    ensures { result ≡ false → (c : ℕ) → slice_index_or flags.now c false ≡ true → ⊥ }
+{
+    for c in 0..flags.len() {
+        if flags[c] {
+            return true;
+        }
+    }
+    false
+}
+
+// Moves the bytes behind the first `count` to the front, if some column is whole. Else none of them counts.
+fn shift_stored(whole: &[bool], bytes: &mut [u8], count: usize)
+    requires { count ≤ length bytes.old }
+    ensures count { length bytes.new ≡ length bytes.old }
+    ensures either { (bytes.new ≡ bytes.old) ⊎ (bytes.new ≡ drop count bytes.old ++ replicate count 0) }
+    ensures moved { (c : ℕ) → slice_index_or whole.now c false ≡ true → bytes.new ≡ drop count bytes.old ++ replicate count 0 }
+{
+    if has_one(whole) {
+        shift_bytes(bytes, count);
+    }
+}
+
+// Moves the bytes behind the first `count` to the front, and writes zeros behind them.
+fn shift_bytes(bytes: &mut [u8], count: usize)
+    requires { count ≤ length bytes.old }
+    ensures { bytes.new ≡ drop count bytes.old ++ replicate count 0 }
+{
+    let kept = bytes.len() - count;
+    bytes.copy_within(count.., 0);
+    bytes[kept..].fill(0);
+}
