@@ -52,7 +52,6 @@ fn draw_flag(words: &mut Pcg32, channel: &Channel, flags: &mut [bool], i: usize)
     ensures step { words.new ≡ advance 64 multiplier_64 1 words.old }
 {
     let drawn = draw_loss(words);
-    // The channel judges the loss with this slot lost.
     flags[i] = true;
     flags[i] = drawn && admits_last(channel, &flags[..i + 1]);
 }
