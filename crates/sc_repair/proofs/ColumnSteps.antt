@@ -185,10 +185,12 @@ module _ (whole : List Bool) (bytes : List ℕ) (n w : ℕ) where
 
   met_other : (c : ℕ) (vs : List (List ℕ)) → c < n → length vs ≡ n → All (IsBytes w) vs → get_or whole c false ≡ false → MeetsRow gf256_product w (stored_row n w whole bytes c) vs
   met_other c vs lt count values e =
+      let within : c < length vs = omega arith in
+      let byte : 0 < 256 = omega arith in
       let none : cond (get_or whole c false) 1 0 ≡ 0 = cond-false (get_or whole c false) 1 0 e in
       let right : cond (get_or whole c false) (get_or (cut n w bytes) c []) (zero_bytes w) ≡ zero_bytes w = cond-false (get_or whole c false) (get_or (cut n w bytes) c []) (zero_bytes w) e in
-      ap (λ (x : ℕ). combination 0 bit_xor gf256_product w (set (replicate n 0) c x) vs) none ∙ unit_value w n c 0 vs (omega arith) lt count values
-      ∙ (module_of w).times_zero (get_or vs c []) (All-get_or (IsBytes w) vs c [] (omega arith) values) ∙ sym right
+      ap (λ (x : ℕ). combination 0 bit_xor gf256_product w (set (replicate n 0) c x) vs) none ∙ unit_value w n c 0 vs byte lt count values
+      ∙ (module_of w).times_zero (get_or vs c []) (All-get_or (IsBytes w) vs c [] within values) ∙ sym right
 
 -- a list solves all that is known exactly where it solves the equations and has the stored byte strings
 pub all_known-iff : (known : Knowledge ℕ) (whole : List Bool) (bytes : List ℕ) → length whole ≡ known.cols → (vs : List (List ℕ))

@@ -1,4 +1,5 @@
 use Rattle.std.proofs.Common.{refl, subst}
+use Rattle.std.proofs.lemmas.Result.{err_from_is_err_and}
 use Rattle.sc_slots.specs.Answers.{slot_in}
 use Rattle.sc_repair.specs.RepairSteps.{Resumes}
 use Rattle.sc_repair.proofs.ComeSteps.{many_gives, come_gives, come_counts}
@@ -21,3 +22,11 @@ returns-clause-counts g c =
     let resumes : Resumes c.args.file.now c.args.kept.now c.args.counts.now.missed c.args.slot.now.m c.in-Ok.repairer =
     subst (λ k. Resumes c.args.file.now k c.args.counts.now.missed c.args.slot.now.m c.in-Ok.repairer) c.take.ensures.value c.in-Ok.ensures.resumes in
     come_counts c.args.file.now c.args.kept.now c.args.counts.now c.place_slot.new.counts c.in-Ok.repairer c.place_slot.new.repairer (slot_in c.args.slot.now) resumes c.in_ok-end.end c.in_ok-end.ensures.counts
+
+pub returns-in_err-end-clause-gives : goal.returns-in_err-end-clause-gives
+returns-in_err-end-clause-gives g c slots text keeps =
+    let resumes : Resumes c.args.file.now c.args.kept.now c.args.counts.now.missed c.args.slot.now.m c.in-Ok.repairer =
+    subst (λ k. Resumes c.args.file.now k c.args.counts.now.missed c.args.slot.now.m c.in-Ok.repairer) c.take.ensures.value c.in-Ok.ensures.resumes in
+    let rests = resumes slots text (slot_in c.args.slot.now) refl keeps in
+    let failed = err_from_is_err_and c.from_residual.result c.from_residual.ensures.1 in
+    rw failed.1 (c.in_err-end.ensures.gives slots text rests.0 rests.1)
