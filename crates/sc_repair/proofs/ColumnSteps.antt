@@ -4,16 +4,16 @@ use Rattle.std.specs.List.{range_with_len}
 use Rattle.std.specs.Int.Bits.{xor_assoc, xor_self, xor_zero_r}
 use Rattle.std.proofs.lemmas.Bool.{cases_lt, cases_eq, cond-true, cond-false}
 use Rattle.std.proofs.lemmas.List.{length-replicate, length-map, length-append, length-take-le, length-drop, get_or-replicate, get_or-take, get_or-drop, get_or_past, get_or_default, get_or_append_left, get_or-append_right, get_or-append-add, get_or-set_same, get_or-set_other, take-append-drop, take-append-le, drop-append-le, drop-drop, ext_get_or}
-use Rattle.std.proofs.lemmas.List.Elements.{All-append, All-replicate, All-set, All-from_get_or, All-get_or, All-cons, All-head, All-tail, All-nil, All-take, All-drop}
+use Rattle.std.proofs.lemmas.List.Elements.{All-append, All-replicate, All-set, All-from_get_or, All-get_or, All-head, All-tail, All-nil, All-take, All-drop}
 use Rattle.std.proofs.lemmas.List.FromFn.{length-map-range_with_len, get_or-map-range_with_len}
 use borrow.Rule.Slice.PartMut.{put_mid}
 use Rattle.sc_field.specs.Scale.{scaled_sum}
 use Rattle.sc_field.specs.Gf256.{gf256_product}
 use Rattle.sc_field.specs.Laws.Gf256Laws.{gf256_field, gf256_action}
 use Rattle.sc_matrix.specs.Module.{IsByte, IsModule}
-use Rattle.sc_matrix.specs.Vector.{IsVector, add_vectors, scale_vector, dot, combination}
+use Rattle.sc_matrix.specs.Vector.{IsVector, add_vectors, combination}
 use Rattle.sc_matrix.specs.Layout.{cut}
-use Rattle.sc_matrix.proofs.LayoutLaws.{vectors-cut, length-cut, length-row, get_or-cut, cut-put_mid, length-put_mid, row_within}
+use Rattle.sc_matrix.proofs.LayoutLaws.{vectors-cut, length-cut, get_or-cut, cut-put_mid, length-put_mid, row_within}
 use Rattle.sc_matrix.proofs.VectorLaws.{length-add_vectors}
 use Rattle.sc_matrix.proofs.ModuleLaws.{none_plus}
 use Rattle.sc_matrix.proofs.ByteSteps.{scaled_sum_is}
@@ -203,8 +203,11 @@ all_known-iff known whole bytes count vs =
     let xs : List (Row ℕ (List ℕ)) = map f (range_with_len 0 n) in
     let lx : length xs ≡ n = length-map-range_with_len f 0 n in (
       λ s. (
-        record { values = s.values; solves = All-from_get_or P known.rows (f 0) (λ i lt.
-        subst P (get_or-append-add xs known.rows i (f 0)) (All-get_or P (xs ++ known.rows) (length xs + i) (f 0) (omega (arith, length-append xs known.rows)) s.solves)) },
+        record {
+          values = s.values;
+          solves = All-from_get_or P known.rows (f 0) (λ i lt.
+              subst P (get_or-append-add xs known.rows i (f 0)) (All-get_or P (xs ++ known.rows) (length xs + i) (f 0) (omega (arith, length-append xs known.rows)) s.solves));
+        },
         λ c e.
             let lt : c < n = omega (arith, flag_within whole c e) in
             (met_whole whole bytes n w c vs lt s.values.width s.values.entries e).0
@@ -443,10 +446,13 @@ module _ (known : Knowledge ℕ) (whole free : List Bool) (bytes : List ℕ) (h 
         λ s.
             let x = iff_old.0 s.0 in
             let value : get_or symbols col [] ≡ src = sym (unit_gives w n col symbols lt x.0.values.width x.0.values.entries) ∙ s.1 in
-            iff_new.1 (x.0, subst (λ (st : List (List ℕ)). HasStored (set whole col true) st symbols) (sym stored_is) (λ c e. elim (cases_eq c col) [
-              | inl same ↦ subst (λ (y : ℕ). get_or symbols y [] ≡ get_or (set stored col src) y []) (sym same) (value ∙ sym here)
-              | inr other ↦ x.1 c (sym (get_or-set_other whole col c true false other) ∙ e) ∙ sym (kept c other)
-            ])),
+            iff_new.1 (
+              x.0,
+              subst (λ (st : List (List ℕ)). HasStored (set whole col true) st symbols) (sym stored_is) (λ c e. elim (cases_eq c col) [
+                | inl same ↦ subst (λ (y : ℕ). get_or symbols y [] ≡ get_or (set stored col src) y []) (sym same) (value ∙ sym here)
+                | inr other ↦ x.1 c (sym (get_or-set_other whole col c true false other) ∙ e) ∙ sym (kept c other)
+              ]),
+            ),
       )
 
 -- ---- columns are forgotten
@@ -525,14 +531,18 @@ module _ (old new : Knowledge ℕ) (whole free : List Bool) (bytes bytes' : List
       let vu = to_old us values in
       let f = (forgets vs vv).0 s in
       let lf = h.free_count in
-      (forgets us vu).1 (f.0, f.1, h.is_free (f.0 ++ take (n - count) vs) (f.0 ++ take (n - count) us) f.2 (joined_vector f.0 us f.1 vu) (λ c lt e. elim (cases_lt c count) [
-        | inl low ↦ joined_front f.0 us f.1 vu c low ∙ sym (joined_front f.0 vs f.1 vv c low)
-        | inr high ↦
-            let at : count + (c - count) ≡ c = omega arith in
-            joined_rest f.0 us f.1 vu c high lt
-            ∙ same (c - count) (omega arith) (shift_low free count true (c - count) (omega arith) ∙ ap (λ (x : ℕ). get_or free x false) at ∙ e)
-            ∙ sym (joined_rest f.0 vs f.1 vv c high lt)
-      ]))
+      (forgets us vu).1 (
+        f.0,
+        f.1,
+        h.is_free (f.0 ++ take (n - count) vs) (f.0 ++ take (n - count) us) f.2 (joined_vector f.0 us f.1 vu) (λ c lt e. elim (cases_lt c count) [
+          | inl low ↦ joined_front f.0 us f.1 vu c low ∙ sym (joined_front f.0 vs f.1 vv c low)
+          | inr high ↦
+              let at : count + (c - count) ≡ c = omega arith in
+              joined_rest f.0 us f.1 vu c high lt
+              ∙ same (c - count) (omega arith) (shift_low free count true (c - count) (omega arith) ∙ ap (λ (x : ℕ). get_or free x false) at ∙ e)
+              ∙ sym (joined_rest f.0 vs f.1 vv c high lt)
+        ]),
+      )
 
   pub columns_forgotten : length bytes' ≡ length bytes → All IsByte bytes' → IsColumns new (drop count whole ++ replicate count false) (drop count free ++ replicate count true) bytes'
   columns_forgotten same_length bytes_ok =
@@ -581,9 +591,12 @@ module _ (old new : Knowledge ℕ) (whole free : List Bool) (bytes bytes' : List
         λ s.
             let us = s.0 in
             let x = (all_known-iff old whole bytes h.whole_count (us ++ take (n - count) vs)).0 s.2 in
-            iff_new.1 ((forgets vs values).1 (us, s.1, x.0), subst (λ (st : List (List ℕ)). HasStored whole' st vs) (sym stored_is) (λ i e.
-            let y = shift_whole whole count i (omega arith) e in
-            let low : i < n - count = (let lt = y.0 in omega arith) in
-            let back : count + i - count ≡ i = omega arith in
-            sym (ap (λ (v : ℕ). get_or vs v []) back) ∙ sym (joined_rest us vs s.1 values (count + i) (omega arith) (omega arith)) ∙ x.1 (count + i) y.1 ∙ sym (stored_moves i low y.1))),
+            iff_new.1 (
+              (forgets vs values).1 (us, s.1, x.0),
+              subst (λ (st : List (List ℕ)). HasStored whole' st vs) (sym stored_is) (λ i e.
+                  let y = shift_whole whole count i (omega arith) e in
+                  let low : i < n - count = (let lt = y.0 in omega arith) in
+                  let back : count + i - count ≡ i = omega arith in
+                  sym (ap (λ (v : ℕ). get_or vs v []) back) ∙ sym (joined_rest us vs s.1 values (count + i) (omega arith) (omega arith)) ∙ x.1 (count + i) y.1 ∙ sym (stored_moves i low y.1)),
+            ),
       )
