@@ -45,9 +45,6 @@ flag_within flags c e = elim (cases_lt c (length flags)) [
 module_of : (w : ℕ) → IsModule IsByte 0 1 bit_xor gf256_product (IsBytes w) (zero_bytes w) xor_bytes (act_bytes gf256_product)
 module_of w = bytes_module gf256_action w
 
-sum_of : ℕ → List ℕ → List (List ℕ) → List ℕ
-sum_of w cs vs = combination 0 bit_xor gf256_product w cs vs
-
 value_of_sum : (w : ℕ) (cs : List ℕ) (vs : List (List ℕ)) → All IsByte cs → All (IsBytes w) vs → IsBytes w (combination 0 bit_xor gf256_product w cs vs)
 value_of_sum w cs vs a b = dot_value gf256_field (module_of w) cs vs a b
 
@@ -172,9 +169,6 @@ unit_gives w n c vs lt count values =
     unit_value w n c 1 vs (omega arith) lt count values ∙ (module_of w).times_one (get_or vs c []) (All-get_or (IsBytes w) vs c [] (omega arith) values)
 
 module _ (whole : List Bool) (bytes : List ℕ) (n w : ℕ) where
-  row_at : ℕ → Row ℕ (List ℕ)
-  row_at c = stored_row n w whole bytes c
-
   met_whole : (c : ℕ) (vs : List (List ℕ)) → c < n → length vs ≡ n → All (IsBytes w) vs → get_or whole c false ≡ true → MeetsRow gf256_product w (stored_row n w whole bytes c) vs ↔ (get_or vs c [] ≡ get_or (cut n w bytes) c [])
   met_whole c vs lt count values e =
       let one : cond (get_or whole c false) 1 0 ≡ 1 = cond-true (get_or whole c false) 1 0 e in
