@@ -4,16 +4,16 @@ use Rattle.std.specs.List.{range_with_len}
 use Rattle.std.specs.Int.Bits.{xor_assoc, xor_self, xor_zero_r}
 use Rattle.std.proofs.lemmas.Bool.{cases_lt, cases_eq, cond-true, cond-false}
 use Rattle.std.proofs.lemmas.List.{length-replicate, length-map, length-append, length-take-le, length-drop, get_or-replicate, get_or-take, get_or-drop, get_or_past, get_or_default, get_or_append_left, get_or-append_right, get_or-append-add, get_or-set_same, get_or-set_other, take-append-drop, take-append-le, drop-append-le, drop-drop, ext_get_or}
-use Rattle.std.proofs.lemmas.List.Elements.{All-append, All-replicate, All-set, All-from_get_or, All-get_or, All-cons, All-head, All-tail, All-nil, All-take, All-drop}
+use Rattle.std.proofs.lemmas.List.Elements.{All-append, All-replicate, All-set, All-from_get_or, All-get_or, All-head, All-tail, All-nil, All-take, All-drop}
 use Rattle.std.proofs.lemmas.List.FromFn.{length-map-range_with_len, get_or-map-range_with_len}
 use borrow.Rule.Slice.PartMut.{put_mid}
 use Rattle.sc_field.specs.Scale.{scaled_sum}
 use Rattle.sc_field.specs.Gf256.{gf256_product}
 use Rattle.sc_field.specs.Laws.Gf256Laws.{gf256_field, gf256_action}
 use Rattle.sc_matrix.specs.Module.{IsByte, IsModule}
-use Rattle.sc_matrix.specs.Vector.{IsVector, add_vectors, scale_vector, dot, combination}
+use Rattle.sc_matrix.specs.Vector.{IsVector, add_vectors, combination}
 use Rattle.sc_matrix.specs.Layout.{cut}
-use Rattle.sc_matrix.proofs.LayoutLaws.{vectors-cut, length-cut, length-row, get_or-cut, cut-put_mid, length-put_mid, row_within}
+use Rattle.sc_matrix.proofs.LayoutLaws.{vectors-cut, length-cut, get_or-cut, cut-put_mid, length-put_mid, row_within}
 use Rattle.sc_matrix.proofs.VectorLaws.{length-add_vectors}
 use Rattle.sc_matrix.proofs.ModuleLaws.{none_plus}
 use Rattle.sc_matrix.proofs.ByteSteps.{scaled_sum_is}
@@ -44,9 +44,6 @@ flag_within flags c e = elim (cases_lt c (length flags)) [
 
 module_of : (w : ℕ) → IsModule IsByte 0 1 bit_xor gf256_product (IsBytes w) (zero_bytes w) xor_bytes (act_bytes gf256_product)
 module_of w = bytes_module gf256_action w
-
-sum_of : ℕ → List ℕ → List (List ℕ) → List ℕ
-sum_of w cs vs = combination 0 bit_xor gf256_product w cs vs
 
 value_of_sum : (w : ℕ) (cs : List ℕ) (vs : List (List ℕ)) → All IsByte cs → All (IsBytes w) vs → IsBytes w (combination 0 bit_xor gf256_product w cs vs)
 value_of_sum w cs vs a b = dot_value gf256_field (module_of w) cs vs a b
@@ -172,9 +169,6 @@ unit_gives w n c vs lt count values =
     unit_value w n c 1 vs (omega arith) lt count values ∙ (module_of w).times_one (get_or vs c []) (All-get_or (IsBytes w) vs c [] (omega arith) values)
 
 module _ (whole : List Bool) (bytes : List ℕ) (n w : ℕ) where
-  row_at : ℕ → Row ℕ (List ℕ)
-  row_at c = stored_row n w whole bytes c
-
   met_whole : (c : ℕ) (vs : List (List ℕ)) → c < n → length vs ≡ n → All (IsBytes w) vs → get_or whole c false ≡ true → MeetsRow gf256_product w (stored_row n w whole bytes c) vs ↔ (get_or vs c [] ≡ get_or (cut n w bytes) c [])
   met_whole c vs lt count values e =
       let one : cond (get_or whole c false) 1 0 ≡ 1 = cond-true (get_or whole c false) 1 0 e in
@@ -185,10 +179,12 @@ module _ (whole : List Bool) (bytes : List ℕ) (n w : ℕ) where
 
   met_other : (c : ℕ) (vs : List (List ℕ)) → c < n → length vs ≡ n → All (IsBytes w) vs → get_or whole c false ≡ false → MeetsRow gf256_product w (stored_row n w whole bytes c) vs
   met_other c vs lt count values e =
+      let within : c < length vs = omega arith in
+      let byte : 0 < 256 = omega arith in
       let none : cond (get_or whole c false) 1 0 ≡ 0 = cond-false (get_or whole c false) 1 0 e in
       let right : cond (get_or whole c false) (get_or (cut n w bytes) c []) (zero_bytes w) ≡ zero_bytes w = cond-false (get_or whole c false) (get_or (cut n w bytes) c []) (zero_bytes w) e in
-      ap (λ (x : ℕ). combination 0 bit_xor gf256_product w (set (replicate n 0) c x) vs) none ∙ unit_value w n c 0 vs (omega arith) lt count values
-      ∙ (module_of w).times_zero (get_or vs c []) (All-get_or (IsBytes w) vs c [] (omega arith) values) ∙ sym right
+      ap (λ (x : ℕ). combination 0 bit_xor gf256_product w (set (replicate n 0) c x) vs) none ∙ unit_value w n c 0 vs byte lt count values
+      ∙ (module_of w).times_zero (get_or vs c []) (All-get_or (IsBytes w) vs c [] within values) ∙ sym right
 
 -- a list solves all that is known exactly where it solves the equations and has the stored byte strings
 pub all_known-iff : (known : Knowledge ℕ) (whole : List Bool) (bytes : List ℕ) → length whole ≡ known.cols → (vs : List (List ℕ))

@@ -2,7 +2,7 @@
 use Rattle.std.proofs.Common.{◌≡◌, ◌≢◌, ℕ, zero as nought, suc, ◌+◌, ◌*◌, ◌<◌, ◌≤◌, ◌&&◌, false, cond, eqb, List, ◌++◌, length, get_or, map, set, take, drop, flat_map, replicate, sym, ap, ap₂, ◌∙◌, subst, arith, suc-mul, length-set, inl, inr}
 use Rattle.std.specs.List.{range_with_len}
 use Rattle.std.proofs.lemmas.Bool.{cases_lt, cases_eq, cond-true, cond-false, eq-eqb, ne_eqb, and_left, and_right, and_from}
-use Rattle.std.proofs.lemmas.List.{length-replicate, length-take-le, length-drop, get_or-replicate, get_or-take, get_or-drop, get_or-set_same, get_or-set_other, set-set, set-get_or, ext_get_or, take-append-drop, nil_from_length}
+use Rattle.std.proofs.lemmas.List.{length-replicate, length-take-le, length-drop, get_or-replicate, get_or-take, get_or-drop, get_or-set_same, get_or-set_other, ext_get_or, take-append-drop, nil_from_length}
 use Rattle.std.proofs.lemmas.List.FromFn.{length-map-range_with_len, get_or-map-range_with_len}
 use Rattle.std.proofs.Math.Nat.{mul_assoc, mul-le-mul_right}
 use Rattle.sc_matrix.proofs.LayoutLaws.{row_within}
@@ -67,13 +67,6 @@ symbol_row_is k n place i lt hi =
                 ]
           ]
     ])
-
--- a one that is taken back leaves zeros
-pub taken_back : (n at : ℕ) → at < n → set {A = ℕ} (set {A = ℕ} (replicate n 0) at 1) at 0 ≡ replicate n 0
-taken_back n at lt =
-    let zeros : List ℕ = replicate n 0 in
-    let zero_there : 0 ≡ get_or zeros at 0 = sym (get_or-replicate n at 0 0 lt) in
-    set-set zeros at 1 0 ∙ ap (λ (x : ℕ). set zeros at x) zero_there ∙ set-get_or zeros at 0
 
 -- ---- row by row
 

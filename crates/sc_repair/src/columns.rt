@@ -159,11 +159,25 @@ fn make_all(made: &mut [Multiplier<Gf256>]) {
     }
 }
 
+// Whether `c` is zero. Then adding `c` times `src` changes nothing.
+#[inline(always)]
+fn adds_nothing(c: Gf256, sum: &[u8], src: &[u8]) -> bool
+    requires { length src.now ≡ length sum.now }
+    ensures { result ≡ true → sum.now ≡ scaled_sum (gf256_product c) sum.now src.now }
+{
+    c.known();
+    c == Gf256::zero()
+}
+
 // Adds `c` times `src`, by the multiplier that was made for it.
+#[inline(always)]
 fn add_product(made: &[Multiplier<Gf256>], c: Gf256, sum: &mut [u8], src: &[u8])
     requires { length src.now ≡ length sum.old }
     ensures { sum.new ≡ scaled_sum (gf256_product c) sum.old src.now }
 {
+    if adds_nothing(c, sum, src) {
+        return;
+    }
     let place = c.number() as usize;
     if place < made.len() && made[place].coefficient == c {
         made[place].scale_add(sum, src);

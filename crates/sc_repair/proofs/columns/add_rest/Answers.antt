@@ -1,10 +1,9 @@
-use Rattle.std.proofs.Common.{◌≡◌, ◌↔◌, ℕ, ◌*◌, ◌+◌, ◌<◌, List, true, false, length, get_or, refl, sym, ap, ◌∙◌, subst, arith}
-use Rattle.sc_field.specs.Gf256.{gf256_product}
-use Rattle.sc_echelon.specs.Knowledge.{Knowledge, IsSolution, zero_bytes}
+use Rattle.std.proofs.Common.{◌≡◌, ℕ, length, sym, ap, ◌∙◌, subst}
+use Rattle.sc_echelon.specs.Knowledge.{Knowledge, zero_bytes}
 use Rattle.sc_echelon.specs.declared.knowledge.Added.TheVariants.{New, Known}
 use Rattle.sc_repair.specs.Equations.{Gives, Learns}
-use Rattle.sc_repair.specs.Columns.{IsColumns, IsFree, all_known}
-use Rattle.sc_repair.proofs.ColumnSteps.{says_here, zero_says, free_more, free_less, columns_more, learns_new, learns_known, refuses_clash}
+use Rattle.sc_repair.specs.Columns.{all_known}
+use Rattle.sc_repair.proofs.ColumnSteps.{says_here, zero_says, free_more, columns_more, learns_new, learns_known, refuses_clash}
 use Rattle.sc_repair.proofs.columns.add_rest.Goals as goal
 
 pub returns-then-not-touch-clause-learns : goal.returns-then-not-touch-clause-learns

@@ -1,6 +1,6 @@
-use Rattle.std.proofs.Common.{◌≡◌, ℕ, ◌*◌, ◌+◌, ◌-◌, List, [], get_or, set, take, drop, replicate, ap, ◌∙◌, arith}
+use Rattle.std.proofs.Common.{ℕ, ◌*◌, ◌+◌, ◌-◌, [], get_or, set, take, drop, replicate, ap, ◌∙◌, arith}
 use Rattle.sc_matrix.specs.Layout.{cut}
-use Rattle.sc_matrix.proofs.LayoutLaws.{row_part, row_within}
+use Rattle.sc_matrix.proofs.LayoutLaws.{row_part}
 use Rattle.sc_slots.specs.Rows.{symbol_row}
 use Rattle.sc_repair.specs.Equations.{Gives}
 use Rattle.sc_repair.proofs.EquationSteps.{symbol_row_is, learns_same, refuses_same, learns_more, refuses_more}

@@ -25,8 +25,8 @@ returns-clause-counts g c =
 
 pub returns-in_err-end-clause-gives : goal.returns-in_err-end-clause-gives
 returns-in_err-end-clause-gives g c slots text keeps =
-    let failed = err_from_is_err_and c.from_residual.result c.from_residual.ensures.1 in
     let resumes : Resumes c.args.file.now c.args.kept.now c.args.counts.now.missed c.args.slot.now.m c.in-Ok.repairer =
     subst (λ k. Resumes c.args.file.now k c.args.counts.now.missed c.args.slot.now.m c.in-Ok.repairer) c.take.ensures.value c.in-Ok.ensures.resumes in
     let rests = resumes slots text (slot_in c.args.slot.now) refl keeps in
+    let failed = err_from_is_err_and c.from_residual.result c.from_residual.ensures.1 in
     rw failed.1 (c.in_err-end.ensures.gives slots text rests.0 rests.1)

@@ -1,11 +1,11 @@
-use Rattle.std.proofs.Common.{◌≡◌, ◌⊎◌, ℕ, ◌*◌, ◌+◌, ◌-◌, ◌<◌, ◌≤◌, ◌++◌, List, Bool, All, true, false, length, get_or, drop, replicate, sym, ap, ap₂, ◌∙◌, subst, arith, inl, inr}
+use Rattle.std.proofs.Common.{◌≡◌, ℕ, ◌*◌, ◌≤◌, ◌++◌, List, Bool, All, true, false, length, get_or, drop, replicate, sym, ap, ap₂, ◌∙◌, subst, arith, inl, inr}
 use Rattle.std.specs.Vec.{with_items}
 use Rattle.std.proofs.lemmas.List.Elements.{All-append, All-drop, All-replicate}
 use Rattle.sc_field.specs.Gf256.{gf256_product}
 use Rattle.sc_matrix.specs.Module.{IsByte}
 use Rattle.sc_matrix.proofs.LayoutLaws.{items_written}
 use Rattle.sc_echelon.specs.Knowledge.{Knowledge, Forgets}
-use Rattle.sc_repair.specs.Columns.{IsColumns, IsRoomyColumns, all_known}
+use Rattle.sc_repair.specs.Columns.{IsRoomyColumns, all_known}
 use Rattle.sc_repair.proofs.ColumnSteps.{columns_forgotten, all_forgotten, length_shift}
 use Rattle.sc_repair.proofs.columns.Columns.forget_front.Goals as goal
 

@@ -1,9 +1,8 @@
-use Rattle.std.proofs.Common.{◌≡◌, ℕ, ◌*◌, List, Bool, true, false, replicate, length, sym, ap, ap₂, ◌∙◌, subst}
+use Rattle.std.proofs.Common.{◌≡◌, ℕ, ◌*◌, List, Bool, true, false, replicate, length, sym, ap, ◌∙◌, subst}
 use Rattle.std.proofs.lemmas.List.{length-replicate}
 use Rattle.sc_field.specs.Gf256.{gf256_product}
-use Rattle.sc_matrix.specs.Vector.{IsVector}
-use Rattle.sc_echelon.specs.Knowledge.{Knowledge, IsSolution, IsBytes, nothing_known}
-use Rattle.sc_repair.specs.Columns.{IsColumns, IsRoomyColumns, all_known}
+use Rattle.sc_echelon.specs.Knowledge.{Knowledge, IsSolution, nothing_known}
+use Rattle.sc_repair.specs.Columns.{IsRoomyColumns, all_known}
 use Rattle.sc_repair.proofs.ColumnSteps.{columns_start, any_at_start}
 use Rattle.sc_repair.proofs.columns.Columns.start.Goals as goal
 

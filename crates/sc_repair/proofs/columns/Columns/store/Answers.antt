@@ -1,12 +1,11 @@
-use Rattle.std.proofs.Common.{◌≡◌, ◌↔◌, ℕ, ◌*◌, ◌+◌, ◌-◌, ◌<◌, List, Bool, true, false, length, get_or, set, replicate, sym, ap, ap₂, ◌∙◌, subst, arith}
+use Rattle.std.proofs.Common.{◌≡◌, ℕ, ◌*◌, ◌<◌, List, true, false, length, get_or, set, replicate, sym, ap, ap₂, ◌∙◌, subst, arith}
 use borrow.Rule.Slice.PartMut.{put_mid}
 use Rattle.std.proofs.lemmas.List.{get_or_default}
 use Rattle.std.specs.Vec.{with_items}
-use Rattle.sc_matrix.specs.Module.{IsByte}
 use Rattle.sc_matrix.proofs.LayoutLaws.{items_written, length-put_mid, row_within}
 use Rattle.sc_echelon.specs.Knowledge.{Knowledge}
 use Rattle.sc_repair.specs.Equations.{Gives, Learns}
-use Rattle.sc_repair.specs.Columns.{IsColumns, IsRoomyColumns, all_known}
+use Rattle.sc_repair.specs.Columns.{IsRoomyColumns, all_known}
 use Rattle.sc_repair.proofs.ColumnSteps.{columns_stored, learns_stored, are_bytes}
 use Rattle.sc_repair.proofs.columns.Columns.store.Goals as goal
 
