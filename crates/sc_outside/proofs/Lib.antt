@@ -12,6 +12,7 @@
 -- The other files say how this crate's own calls keep up with its definitions.
 pub mod EndsLaws
 pub mod FaultsLaws
+pub mod GrowPortSteps
 pub mod JournalSteps
 pub mod MemoryCabinetSteps
 pub mod MemoryPortSteps

@@ -1,6 +1,7 @@
 pub mod Cabinet
 pub mod DirCabinet
 pub mod Faults
+pub mod GrowPort
 pub mod Journal
 pub mod MemoryCabinet
 pub mod MemoryPort

@@ -4,6 +4,7 @@
 mod cabinet;
 mod dir_cabinet;
 mod error;
+mod grow_port;
 mod journal;
 mod memory_cabinet;
 mod memory_port;
@@ -22,6 +23,7 @@ mod whole;
 pub use cabinet::{Cabinet, FetchFault};
 pub use dir_cabinet::DirCabinet;
 pub use error::{Failed, NoMemory};
+pub use grow_port::GrowPort;
 pub use journal::Move;
 pub use memory_cabinet::MemoryCabinet;
 pub use memory_port::MemoryPort;
