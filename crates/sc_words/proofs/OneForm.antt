@@ -9,7 +9,7 @@ use Rattle.sc_channel.specs.Channel.{ChannelNumbers, IsChannel, is_channel}
 use Rattle.sc_channel.proofs.ChannelLaws.{is_channel-to, is_channel-from}
 use Rattle.sc_words.specs.declared.words.Kind.{Kind}
 use Rattle.sc_words.specs.declared.words.Kind.TheVariants.{Ms, Layered, Optimal}
-use Rattle.sc_words.specs.Words.{Command, lose, generate, protect, check, repair, bound, certify, design, number_to, channel_at, channel_of, lose_of, gen_at, gen_of, protect_at, protect_of, check_at, check_of, repair_of, bound_at, bound_of, certify_of, kind_of, design_at, design_of, command_of}
+use Rattle.sc_words.specs.Words.{Command, lose, generate, protect, check, repair, bound, certify, design, trial, number_to, channel_at, channel_of, lose_of, gen_at, gen_of, protect_at, protect_of, check_at, check_of, repair_of, bound_at, bound_of, certify_of, kind_of, design_at, design_of, trial_at, trial_of, command_of}
 use Rattle.sc_words.specs.Forms.{kind_word, words_of, IsWithinLimits}
 use Rattle.sc_words.proofs.Numbers.{number_to-to_decimal, number_to-decimal}
 
@@ -244,6 +244,40 @@ design_of-to (kind ∷ w ∷ b ∷ n ∷ t ∷ []) command is =
     subst (AreItsWords (codes "design" ∷ kind ∷ w ∷ b ∷ n ∷ t ∷ [])) parts.is (cc, texts.channel)
 design_of-to (kind ∷ w ∷ b ∷ n ∷ t ∷ more ∷ rest) command is = absurd (cc)
 
+record TrialParts (code : List ℕ) (a b c : Option ℕ) (command : Command) : Type 0 where
+  seed : ℕ
+  count : ℕ
+  size : ℕ
+  a_is : a ≡ Some seed
+  b_is : b ≡ Some count
+  c_is : c ≡ Some size
+  least : 12 ≤ size
+  is : trial code seed count size ≡ command
+
+trial_at-to : (code : List ℕ) (a b c : Option ℕ) (command : Command) → trial_at code a b c ≡ Some command → TrialParts code a b c command
+trial_at-to code (Some a) (Some b) (Some c) command is =
+    let parts = cond_some (nat_le 12 c) (trial code a b c) command is in
+    record { seed = a; count = b; size = c; a_is = refl; b_is = refl; c_is = refl; least = grind (arith, nat_tests, parts.0); is = parts.1 }
+trial_at-to code (Some a) (Some b) None command is = absurd (cc)
+trial_at-to code (Some a) None c command is = absurd (cc)
+trial_at-to code None b c command is = absurd (cc)
+
+trial_of-to : (words : List (List ℕ)) (command : Command) → trial_of words ≡ Some command → AreItsWords (codes "trial" ∷ words) command
+trial_of-to [] command is = absurd (cc)
+trial_of-to (code ∷ []) command is = absurd (cc)
+trial_of-to (code ∷ a ∷ []) command is = absurd (cc)
+trial_of-to (code ∷ a ∷ b ∷ []) command is = absurd (cc)
+trial_of-to (code ∷ a ∷ b ∷ c ∷ []) command is =
+    let parts = trial_at-to code (number_to 18446744073709551615 a) (number_to 10000 b) (number_to 1472 c) command is in
+    let seed_text = number_to-to_decimal 18446744073709551615 a parts.seed (omega arith) parts.a_is in
+    let count_text = number_to-to_decimal 10000 b parts.count (omega arith) parts.b_is in
+    let size_text = number_to-to_decimal 1472 c parts.size (omega arith) parts.c_is in
+    let a_is : a ≡ decimal parts.seed = seed_text.0 in
+    let b_is : b ≡ decimal parts.count = count_text.0 in
+    let c_is : c ≡ decimal parts.size = size_text.0 in
+    subst (AreItsWords (codes "trial" ∷ code ∷ a ∷ b ∷ c ∷ [])) parts.is (cc, (seed_text.1, count_text.1, parts.least, size_text.1))
+trial_of-to (code ∷ a ∷ b ∷ c ∷ more ∷ rest) command is = absurd (cc)
+
 -- By a command's name: the words behind it ask for the command, or what is left does.
 named : (name word : List ℕ) (words : List (List ℕ)) (command : Command) (its others : Option Command) (is_named : Bool) → bytes_eq name word ≡ is_named
     → (its ≡ Some command → AreItsWords (word ∷ words) command) → (others ≡ Some command → AreItsWords (name ∷ words) command)
@@ -264,7 +298,8 @@ command_of-to (name ∷ words) command is =
     (named name (codes "repair") words command _ _ _ refl (repair_of-to words command)
     (named name (codes "bound") words command _ _ _ refl (bound_of-to words command)
     (named name (codes "certify") words command _ _ _ refl (certify_of-to words command)
-    (named name (codes "design") words command _ _ _ refl (design_of-to words command) (named_none name words command)))))))) is
+    (named name (codes "design") words command _ _ _ refl (design_of-to words command)
+    (named name (codes "trial") words command _ _ _ refl (trial_of-to words command) (named_none name words command))))))))) is
 
 channel_of-decimal : (c : ChannelNumbers) → IsChannel c → channel_of (decimal c.w) (decimal c.b) (decimal c.n) (decimal c.t) ≡ Some c
 channel_of-decimal c is =
@@ -295,3 +330,9 @@ command_of-words_of (repair code) within = refl
 command_of-words_of (bound c) within = rw (channel_of-decimal c within) refl
 command_of-words_of (certify code cert) within = refl
 command_of-words_of (design kind c) within = rw (kind_of-word kind, channel_of-decimal c within) refl
+command_of-words_of (trial code seed count size) within =
+    let seed_is = number_to-decimal 18446744073709551615 seed (omega arith) within.0 in
+    let count_is = number_to-decimal 10000 count (omega arith) within.1 in
+    let size_is = number_to-decimal 1472 size (omega arith) within.3 in
+    let least : nat_le 12 size ≡ true = grind (arith, nat_tests, within.2) in
+    rw (seed_is, count_is, size_is, least) refl

@@ -1,8 +1,8 @@
 -- What a command that was read means.
 use Rattle.std.specs.Prelude.{◌≤◌}
 use Rattle.sc_words.specs.declared.words.Command.{Command}
-use Rattle.sc_words.specs.declared.words.Command.TheVariants.{Lose, Gen, Protect, Check, Repair, Bound, Certify, Design}
-use Rattle.sc_words.specs.Words.{Command as Meaning, lose, generate, protect, check, repair, bound, certify, design}
+use Rattle.sc_words.specs.declared.words.Command.TheVariants.{Lose, Gen, Protect, Check, Repair, Bound, Certify, Design, Trial}
+use Rattle.sc_words.specs.Words.{Command as Meaning, lose, generate, protect, check, repair, bound, certify, design, trial}
 
 -- the command that is asked for
 abbrev pub meaning : Command → Meaning
@@ -14,6 +14,7 @@ meaning (Repair code) = repair code.now
 meaning (Bound channel) = bound channel
 meaning (Certify code cert) = certify code.now cert.now
 meaning (Design kind channel) = design kind channel
+meaning (Trial code seed count size) = trial code.now seed count size
 
 -- the words that a command keeps are of their forms
 abbrev pub HasItsForms : Command → Type 0
@@ -25,3 +26,4 @@ HasItsForms (Repair code) = Unit {0}
 HasItsForms (Bound channel) = Unit {0}
 HasItsForms (Certify code cert) = Unit {0}
 HasItsForms (Design kind channel) = Unit {0}
+HasItsForms (Trial code seed count size) = (count ≤ 10000) × (12 ≤ size) × (size ≤ 1472)

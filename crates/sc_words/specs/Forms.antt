@@ -4,7 +4,7 @@ use Rattle.std.specs.Fmt.{decimal}
 use Rattle.sc_channel.specs.Channel.{IsChannel}
 use Rattle.sc_words.specs.declared.words.Kind.{Kind}
 use Rattle.sc_words.specs.declared.words.Kind.TheVariants.{Ms, Layered, Optimal}
-use Rattle.sc_words.specs.Words.{Command, lose, generate, protect, check, repair, bound, certify, design}
+use Rattle.sc_words.specs.Words.{Command, lose, generate, protect, check, repair, bound, certify, design, trial}
 
 -- the word that names a kind of codes
 abbrev pub kind_word : Kind → List ℕ
@@ -23,6 +23,7 @@ words_of (bound channel) = codes "bound" ∷ decimal channel.w ∷ decimal chann
 words_of (certify code cert) = codes "certify" ∷ code ∷ cert ∷ []
 words_of (design kind channel) =
     codes "design" ∷ kind_word kind ∷ decimal channel.w ∷ decimal channel.b ∷ decimal channel.n ∷ decimal channel.t ∷ []
+words_of (trial code seed count size) = codes "trial" ∷ code ∷ decimal seed ∷ decimal count ∷ decimal size ∷ []
 
 -- the limits of what a command may ask for
 abbrev pub IsWithinLimits : Command → Type 0
@@ -34,3 +35,4 @@ IsWithinLimits (repair code) = Unit {0}
 IsWithinLimits (bound channel) = IsChannel channel
 IsWithinLimits (certify code cert) = Unit {0}
 IsWithinLimits (design kind channel) = IsChannel channel
+IsWithinLimits (trial code seed count size) = (seed ≤ 18446744073709551615) × (count ≤ 10000) × (12 ≤ size) × (size ≤ 1472)

@@ -41,6 +41,7 @@ pub data Command : Type 0 where
   bound : ChannelNumbers → Command
   certify : List ℕ → List ℕ → Command
   design : Kind → ChannelNumbers → Command
+  trial : List ℕ → ℕ → ℕ → ℕ → Command
 
 -- CODE LOSS
 abbrev pub lose_of : List (List ℕ) → Option Command
@@ -115,6 +116,17 @@ abbrev pub design_of : List (List ℕ) → Option Command
 design_of (kind ∷ w ∷ b ∷ n ∷ t ∷ []) = design_at (kind_of kind) (channel_of w b n t)
 design_of _ = None
 
+-- the command that a file's name, a seed, a count and a size of at least 12 ask for, where all are there
+abbrev pub trial_at : List ℕ → Option ℕ → Option ℕ → Option ℕ → Option Command
+trial_at code (Some seed) (Some count) (Some size) = if nat_le 12 size then Some (trial code seed count size) else None
+trial_at code _ _ _ = None
+
+-- CODE SEED COUNT SIZE
+abbrev pub trial_of : List (List ℕ) → Option Command
+trial_of (code ∷ seed ∷ count ∷ size ∷ []) =
+    trial_at code (number_to 18446744073709551615 seed) (number_to 10000 count) (number_to 1472 size)
+trial_of _ = None
+
 -- the command whose form the words have: its name, then its words
 abbrev pub command_of : List (List ℕ) → Option Command
 command_of [] = None
@@ -126,7 +138,8 @@ command_of (name ∷ words) =
     else (if bytes_eq name (codes "repair") then repair_of words
     else (if bytes_eq name (codes "bound") then bound_of words
     else (if bytes_eq name (codes "certify") then certify_of words
-    else (if bytes_eq name (codes "design") then design_of words else None)))))))
+    else (if bytes_eq name (codes "design") then design_of words
+    else (if bytes_eq name (codes "trial") then trial_of words else None))))))))
 
 -- the bytes of each word
 abbrev pub texts : {A : Type 0} → List (String A) → List (List ℕ)

@@ -2,13 +2,16 @@
 
 ghost use Rattle.std.specs.Prelude.{◌≡◌, ◌≤◌, IfSome};
 ghost use Rattle.std.specs.Option.{option_map};
-ghost use Rattle.sc_words.specs.Words.{number_to, begins_plain, channel_of, lose_of, gen_of, protect_of, check_of, repair_of, bound_of, certify_of, kind_of, design_of, command_of, texts};
+ghost use Rattle.sc_words.specs.Words.{number_to, begins_plain, channel_of, lose_of, gen_of, protect_of, check_of, repair_of, bound_of, certify_of, kind_of, design_of, trial_of, command_of, texts};
 ghost use Rattle.sc_words.specs.Command.{meaning, HasItsForms};
 
 use sc_channel::Channel;
 
 /// The most records of a generated capture.
 const MAX_COUNT: u32 = 3_999_960;
+
+/// The most records of a trial.
+const MAX_TRIAL: u32 = 10_000;
 
 /// The least and the greatest size of an RTP packet, in bytes.
 const MIN_SIZE: u16 = 12;
@@ -86,15 +89,27 @@ pub enum Command<'a> {
         /// The channel.
         channel: Channel,
     },
+    /// `trial CODE SEED COUNT SIZE`: protect, lose and repair a generated capture in memory.
+    Trial {
+        /// The name of the code's file.
+        code: &'a str,
+        /// The number from which the packets' bytes and the losses are drawn.
+        seed: u64,
+        /// How many packets: 0 to 10,000.
+        count: u32,
+        /// The size of each packet in bytes: 12 to 1,472.
+        size: u16,
+    },
 }
 
 /// The command whose form the words have, the command's name first, and `None` exactly where they
 /// have no form. It takes no memory.
 ///
 /// The forms are `lose CODE LOSS`, `gen SEED COUNT SIZE`, `protect CODE SIZE`, `check CODE WORKERS`, `repair CODE`,
-/// `bound W B N T`, `certify CODE CERT` and `design KIND W B N T`. Numbers are decimal, without sign and without a leading zero.
-/// W, B, N and T are a channel. The seed has at most 64 bits, the count is at most 3,999,960, a size is 12 to 1,472, and there are 1 to 64
-/// workers. A kind is `ms`, `layered` or `optimal`. A file's name is any word. The forms are of this project.
+/// `bound W B N T`, `certify CODE CERT`, `design KIND W B N T` and `trial CODE SEED COUNT SIZE`. Numbers are decimal, without sign
+/// and without a leading zero. W, B, N and T are a channel. A seed has at most 64 bits, the count is at most 3,999,960 of `gen` and
+/// 10,000 of `trial`, a size is 12 to 1,472, and there are 1 to 64 workers. A kind is `ms`, `layered` or `optimal`. A file's name is
+/// any word. The forms are of this project.
 pub fn read_words(words: &Vec<String>) -> Option<Command<'_>>
     ensures command { command_of (texts words.now.items) ≡ option_map meaning result }
     ensures forms { IfSome result HasItsForms }
@@ -108,6 +123,7 @@ pub fn read_words(words: &Vec<String>) -> Option<Command<'_>>
         [name, rest @ ..] if name.as_str() == "bound" => read_bound(rest),
         [name, rest @ ..] if name.as_str() == "certify" => read_certify(rest),
         [name, rest @ ..] if name.as_str() == "design" => read_design(rest),
+        [name, rest @ ..] if name.as_str() == "trial" => read_trial(rest),
         _ => None,
     }
 }
@@ -147,7 +163,7 @@ fn read_gen(words: &[String]) -> Option<Command<'_>>
 {
     match words {
         [seed, count, size] => {
-            let seed = number_word(seed.as_str(), u64::MAX)?;
+            let seed = seed_word(seed.as_str())?;
             let count = number_word(count.as_str(), MAX_COUNT.into())? as u32;
             let size = number_word(size.as_str(), MAX_SIZE.into())? as u16;
             if MIN_SIZE <= size {
@@ -254,6 +270,31 @@ fn read_design(words: &[String]) -> Option<Command<'_>>
     }
 }
 
+/// The words after `trial`.
+fn read_trial(words: &[String]) -> Option<Command<'_>>
+    ensures command { trial_of (texts words.now) ≡ option_map meaning result }
+    ensures forms { IfSome result HasItsForms }
+{
+    match words {
+        [code, seed, count, size] => {
+            let code = code.as_str();
+            let seed = seed_word(seed.as_str())?;
+            let count = number_word(count.as_str(), MAX_TRIAL.into())? as u32;
+            let size = number_word(size.as_str(), MAX_SIZE.into())? as u16;
+            if size < MIN_SIZE {
+                return None;
+            }
+            Some(Command::Trial {
+                code,
+                seed,
+                count,
+                size,
+            })
+        }
+        _ => None,
+    }
+}
+
 /// The kind that a word names.
 fn read_kind(word: &str) -> Option<Kind>
     ensures { result ≡ kind_of word.now }
@@ -267,6 +308,13 @@ fn read_kind(word: &str) -> Option<Kind>
     } else {
         None
     }
+}
+
+/// The seed that a word writes: a number of at most 64 bits.
+fn seed_word(word: &str) -> Option<u64>
+    ensures { result ≡ number_to 18446744073709551615 word.now }
+{
+    number_word(word, u64::MAX)
 }
 
 /// The number of at most so much that a word writes in decimal, without sign and without a leading zero.
@@ -517,6 +565,43 @@ mod tests {
                         let numbers = (channel.w(), channel.b(), channel.n(), channel.t());
                         want == Some((kind, numbers))
                     }
+                    _ => false,
+                },
+                None => want.is_none(),
+            };
+            assert!(rt; right, "at {line}");
+        }
+        Ok(())
+    }
+
+    #[test]
+    fn reads_the_forms_of_trial(rt: HostRuntime) -> Result<(), Fail> {
+        for (line, want) in [
+            ("trial c1.json 42 4 12", Some(("c1.json", (42, 4, 12)))),
+            ("trial  0 0 1472", Some(("", (0, 0, 1472)))),
+            (
+                "trial 1 18446744073709551615 10000 172",
+                Some(("1", (u64::MAX, 10_000, 172))),
+            ),
+            ("trial c1.json 42 10001 12", None),
+            ("trial c1.json 18446744073709551616 4 12", None),
+            ("trial c1.json 42 4 11", None),
+            ("trial c1.json 42 4 1473", None),
+            ("trial c1.json 42 04 12", None),
+            ("trial c1.json 42 4", None),
+            ("trial c1.json 42 4 12 0", None),
+            ("trial 42 4 12", None),
+            ("Trial c1.json 42 4 12", None),
+        ] {
+            let words = words_of(rt.alloc(), line)?;
+            let right = match read_words(&words) {
+                Some(command) => match command {
+                    Command::Trial {
+                        code,
+                        seed,
+                        count,
+                        size,
+                    } => want == Some((code, (seed, count, size))),
                     _ => false,
                 },
                 None => want.is_none(),
