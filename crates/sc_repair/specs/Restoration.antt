@@ -84,7 +84,7 @@ EachComesBackOrIsMissed = (file : CodeFile) (size : ℕ) (input preamble : List 
     → (repairing file).whole (arrived file size input flags) ≡ some_back preamble (rtp_part records) (came_back file size records flags)
 
 -- The slots that are missed are exactly those of which no block is recovered: each value is the block that all streams have
--- that fit the slots taken up to the deadline, where they all have one. This asks nothing.
+-- that fit the slots taken up to the deadline, where they all have one. It is so of any records and flags.
 abbrev pub MissedAreNotRecovered : Type 0
 MissedAreNotRecovered = (file : CodeFile) (size : ℕ) (records : List Record) (flags : List Bool) → (length (came_back file size records flags) ≡ length (rtp_part records))
     × ((t : ℕ) → t < length (rtp_part records) → IsOutcome 0 gf256_product file.code.k (protection_of file size).m file.channel.t (arrived_slots file size records flags) t (slice_index_or (came_back file size records flags) t None))
@@ -96,7 +96,7 @@ abbrev pub all_back : List ℕ → List Record → Due (Result Repaired RepairEn
 all_back preamble rtp =
     record { answer = Ok (record { end = length rtp; missed = 0; strangers = 0; repeats = 0 }); text = preamble ++ records_bytes rtp; at_end = true }
 
--- Repairing it owes the RTP part of the capture, byte for byte.
+-- Repairing what arrived owes the RTP part of the capture, byte for byte.
 abbrev pub RtpPartComesBack : Type 0
 RtpPartComesBack = (file : CodeFile) (size : ℕ) (input preamble : List ℕ) (records : List Record) (flags : List Bool) → IsSentThrough file size input preamble records flags
     → (repairing file).whole (arrived file size input flags) ≡ all_back preamble (rtp_part records)
