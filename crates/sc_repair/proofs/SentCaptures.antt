@@ -16,7 +16,7 @@ use Rattle.sc_slots.specs.Protected.{Protection, protection_of, packet_len, has_
 use Rattle.sc_slots.specs.ProtectedLaws.{IsProtectable}
 use Rattle.sc_slots.proofs.CaptureSteps.{slot_is}
 use Rattle.sc_slots.proofs.ProtectedLaws.{refusal_by, refusal-is, rtp_part-yes, rtp_part-no, zero_blocks, block-front}
-use Rattle.sc_repair.specs.Restoration.{IsSentThrough}
+use Rattle.sc_repair.specs.Restoration.{IsSentBy}
 use Rattle.sc_repair.proofs.SentBlocks.{rtp-whole, capture_bytes}
 use Rattle.sc_repair.proofs.SentRecords.{AreSendable}
 
@@ -166,7 +166,7 @@ frame_room offset packet len h =
     omega (arith, h, length-append packet (replicate n 0), length-replicate {A = ℕ} n 0)
 
 module _ (file : CodeFile) (size : ℕ) (input preamble : List ℕ) (records : List Record) (flags : List Bool) where
-  pub is_protectable : IsSentThrough file size input preamble records flags → IsProtectable (protection_of file size) input records
+  pub is_protectable : IsSentBy file size input preamble records flags → IsProtectable (protection_of file size) input records
   is_protectable sent =
       let a = accepted file size input preamble records sent.capture sent.is_protected in
       let range = sent.code.in_range in
@@ -181,10 +181,10 @@ module _ (file : CodeFile) (size : ℕ) (input preamble : List ℕ) (records : L
         accepted = a.none;
       }
 
-  pub protected_text : IsSentThrough file size input preamble records flags → ((protecting file size).whole input).text ≡ protected (protection_of file size) preamble records
+  pub protected_text : IsSentBy file size input preamble records flags → ((protecting file size).whole input).text ≡ protected (protection_of file size) preamble records
   protected_text sent = (accepted file size input preamble records sent.capture sent.is_protected).text_is
 
-  pub are_sendable : IsSentThrough file size input preamble records flags → AreSendable file size (rtp_part records)
+  pub are_sendable : IsSentBy file size input preamble records flags → AreSendable file size (rtp_part records)
   are_sendable sent =
       let p = protection_of file size in
       let h = is_protectable sent in

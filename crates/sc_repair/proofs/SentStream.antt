@@ -105,7 +105,7 @@ module _ (p : Protection) (rtp : List Record) where
   pub source_block : (i : ℕ) → i < length rtp → block_at (stream p rtp) i ≡ cut p.code.k p.m (frame_in p (get_or rtp i empty_record))
   source_block i lt = cut_at i (omega arith) ∙ ap (cut p.code.k p.m) (block-front p rtp (zero_blocks p) i lt)
 
-  flush_block : (i : ℕ) → length rtp ≤ i → i < length rtp + p.deadline → block_at (stream p rtp) i ≡ zero_block p.code.k p.m
+  pub flush_block : (i : ℕ) → length rtp ≤ i → i < length rtp + p.deadline → block_at (stream p rtp) i ≡ zero_block p.code.k p.m
   flush_block i past lt =
       let zeros : List ℕ = replicate (p.code.k * p.m) 0 in
       cut_at i lt

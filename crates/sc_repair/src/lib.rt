@@ -8,7 +8,9 @@ mod put;
 mod repair;
 mod repairer;
 
-pub use laws::{protected_captures_come_back, repairing_is_a_job};
+pub use laws::{
+    each_record_comes_back_or_is_missed, protected_captures_come_back, repairing_is_a_job,
+};
 pub use repair::{RepairEnd, Repaired, repair_all};
 pub use repairer::{EndState, MAX_SLOTS, Put, Repairer, TakeFault, Unfit};
 
