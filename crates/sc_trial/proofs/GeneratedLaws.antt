@@ -32,7 +32,7 @@ all_made : (P : Record → Type 0) (f : ℕ → Record) (a n : ℕ) → ((j : �
 all_made P f a zero each = tt
 all_made P f a (suc n) each = (each a (omega arith), all_made P f (a + 1) n (λ j small. each j (omega arith)))
 
-length-generated_packet : (g : Lcg) (from size i : ℕ) → 12 ≤ size → length (generated_packet g from size i) ≡ size
+pub length-generated_packet : (g : Lcg) (from size i : ℕ) → 12 ≤ size → length (generated_packet g from size i) ≡ size
 unfolding generated_packet
 length-generated_packet g from size i least =
     let packet = head_bytes (plain_head 0 (i % 65536) (160 * i % 2 ^ 32) 0x12345678) in

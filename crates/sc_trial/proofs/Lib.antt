@@ -4,7 +4,9 @@
 --                  generated-kind
 --
 -- DrawSteps, LossSteps and RecordSteps say how this crate's own calls keep up with its definitions.
+pub mod BackSteps
 pub mod DrawSteps
 pub mod GeneratedLaws
 pub mod LossSteps
 pub mod RecordSteps
+pub mod TrialSteps
