@@ -220,8 +220,7 @@ module _ (file : CodeFile) (seed count size : ℕ) (within : IsWithinLimits coun
       → IsSentBy file size input standard_preamble es flags × Course sent left back dropped
   went capture copy deadline loss capture_is copy_is deadline_is channel code bytes loss_is flag_count admissible sent left back dropped protects thins repairs =
       let loss_is' : loss ≡ flags = loss_is ∙ ap (λ n. generated_loss (generator seed) file.channel (count + n)) deadline_is in
-      let protects' : ProtectsAs file size input sent = subst (λ l. ProtectsAs file size l sent) capture_is protects in
-      (
+      let protects' : ProtectsAs file size input sent = subst (λ l. ProtectsAs file size l sent) capture_is protects in (
         record {
           channel = channel;
           code = code;
@@ -231,7 +230,7 @@ module _ (file : CodeFile) (seed count size : ℕ) (within : IsWithinLimits coun
           admissible = subst (IsAdmissible file.channel) loss_is' admissible;
           flag_count = omega (arith, ap length loss_is', flag_count, deadline_is, ap length rtp_is, count_is);
         },
-        (protects', subst (λ l. ThinsAs l sent left dropped) loss_is' thins, repairs)
+        (protects', subst (λ l. ThinsAs l sent left dropped) loss_is' thins, repairs),
       )
 
   -- the count, told of slices of the same bytes
