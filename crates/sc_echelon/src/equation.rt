@@ -261,12 +261,31 @@ fn add_both<F: Field>(
 {
     match tables.find(c) {
         Some(by) => add_by(by, first, one, from, end, second, other),
-        None => {
-            let by = Multiplier::new(c);
-            add_by(&by, first, one, from, end, second, other);
-            tables.keep(by);
-        }
+        None => add_first(c, tables, first, one, from, end, second, other),
     }
+}
+
+// The same, where no multiplier was kept: it is made, and kept. It stands apart, so that the way of most calls is short.
+#[inline(never)]
+fn add_first<F: Field>(
+    c: F,
+    tables: &mut Tables<F>,
+    first: &mut [u8],
+    one: &[u8],
+    from: usize,
+    end: usize,
+    second: &mut [u8],
+    other: &[u8],
+)
+    requires first { length one.now ≡ length first.old }
+    requires second { length other.now ≡ length second.old }
+    requires touched { IsTouched from end one.now }
+    ensures first { first.new ≡ scaled_sum (F.act c) first.old one.now }
+    ensures second { second.new ≡ scaled_sum (F.act c) second.old other.now }
+{
+    let by = Multiplier::new(c);
+    add_by(&by, first, one, from, end, second, other);
+    tables.keep(by);
 }
 
 // Whether `c` is zero. Then adding it so many times changes neither of two pairs of bytes.
@@ -299,7 +318,18 @@ fn add_by<F: Field>(
 {
     by.coefficient.known();
     by.scale_add(&mut first[from..end], &one[from..end]);
-    by.scale_add(second, other);
+    add_right(by, second, other);
+}
+
+// Adds a multiple of the bytes of a right side, where there are any: the equations of a matrix have none.
+#[inline(always)]
+fn add_right<F: Field>(by: &Multiplier<F>, right: &mut [u8], other: &[u8])
+    requires { length other.now ≡ length right.old }
+    ensures { right.new ≡ scaled_sum (F.act by.now.coefficient) right.old other.now }
+{
+    if !right.is_empty() {
+        by.scale_add(right, other);
+    }
 }
 
 // Multiplies bytes that are zero but for those from `from` up to `end`.

@@ -64,12 +64,8 @@ fn worked_case<F: Field>(rt: &impl Abort, alloc: Global) -> Result<(), Fail> {
 }
 
 #[test]
-fn worked_case_over_bits(rt: HostRuntime) -> Result<(), Fail> {
-    worked_case::<Gf2>(&rt, rt.alloc())
-}
-
-#[test]
-fn worked_case_over_bytes(rt: HostRuntime) -> Result<(), Fail> {
+fn worked_case_over_both_fields(rt: HostRuntime) -> Result<(), Fail> {
+    worked_case::<Gf2>(&rt, rt.alloc())?;
     worked_case::<Gf256>(&rt, rt.alloc())
 }
 
@@ -327,15 +323,11 @@ fn window<F: Field>(
 }
 
 #[test]
-fn window_over_bytes(rt: HostRuntime) -> Result<(), Fail> {
-    let mut k = Knowledge::<Gf256>::start(rt.alloc(), 360, 20)?;
-    window(&rt, rt.alloc(), &mut k, 362, 256, 9)
-}
-
-#[test]
-fn window_over_bits(rt: HostRuntime) -> Result<(), Fail> {
-    let mut k = Knowledge::<Gf2>::start(rt.alloc(), 40, 20)?;
-    window(&rt, rt.alloc(), &mut k, 60, 2, 9)
+fn window_over_both_fields(rt: HostRuntime) -> Result<(), Fail> {
+    let mut bytes = Knowledge::<Gf256>::start(rt.alloc(), 360, 20)?;
+    window(&rt, rt.alloc(), &mut bytes, 362, 256, 9)?;
+    let mut bits = Knowledge::<Gf2>::start(rt.alloc(), 40, 20)?;
+    window(&rt, rt.alloc(), &mut bits, 60, 2, 9)
 }
 
 // A row of zeros but for a one at each of two columns.
@@ -444,12 +436,8 @@ fn worked_matrix<F: Field>(rt: &impl Abort, alloc: Global) -> Result<(), Fail> {
 }
 
 #[test]
-fn worked_matrix_over_bits(rt: HostRuntime) -> Result<(), Fail> {
-    worked_matrix::<Gf2>(&rt, rt.alloc())
-}
-
-#[test]
-fn worked_matrix_over_bytes(rt: HostRuntime) -> Result<(), Fail> {
+fn worked_matrix_over_both_fields(rt: HostRuntime) -> Result<(), Fail> {
+    worked_matrix::<Gf2>(&rt, rt.alloc())?;
     worked_matrix::<Gf256>(&rt, rt.alloc())
 }
 
