@@ -2,7 +2,9 @@
 
 ghost use Rattle.std.specs.Prelude.{◌≤◌};
 
-use super::super::laws::{protected_captures_come_back, repairing_is_a_job};
+use super::super::laws::{
+    each_record_comes_back_or_is_missed, protected_captures_come_back, repairing_is_a_job,
+};
 use super::super::repairer::EndState;
 use super::*;
 use sc_channel::Channel;
@@ -347,6 +349,7 @@ fn repairs_many_slots(rt: HostRuntime) -> Result<(), Fail> {
     assert_eq!(rt; written.len(), 3_002);
     assert_eq!(rt; written[..4], [44, 20, 60, 60][..]);
     repairing_is_a_job();
+    each_record_comes_back_or_is_missed();
     protected_captures_come_back();
     Ok(())
 }
