@@ -6,6 +6,7 @@ What is wanted is worked out from the format alone, by a few lines of another la
 import functools
 import itertools
 import json
+import operator
 import os
 import random
 import struct
@@ -159,31 +160,47 @@ def repeated(data, flags):
     return 5 if lost else 0, thinned(start, kept), b"slots %d missed %d strangers 0 repeats 0\n" % (end, len(lost))
 
 
-def decided(code, loss):
-    """Whether the kept slots of a loss leave block 0 of a stream over GF(256) no choice: elimination of the lost symbols, block 0 last."""
+def decided(code, unknown, kept, target):
+    """Whether kept slots leave a block of a stream over GF(256) no choice where these blocks aren't known: elimination, that block last."""
     k, r, lags = code["k"], code["r"], code["lags"]
-    columns = [(t, i) for t, lost in reversed(list(enumerate(loss))) if lost for i in range(k)]
-    rows = [
-        [lags[u - t][i][j] if t <= u and u - t < len(lags) else 0 for t, i in columns]
-        for u, lost in enumerate(loss)
-        if not lost
-        for j in range(r)
-    ]
-    inverse = {x: next(y for y in range(256) if times(x, y) == 1) for x in set(sum(rows, [])) - {0}}
-    rank = 0
-    for column in range(len(columns)):
-        pivot = next((row for row in rows[rank:] if row[column]), None)
+    columns = [(t, i) for t in sorted(unknown - {target}) + [target] for i in range(k)]
+    rows = [bytes(lags[u - t][i][j] if 0 <= u - t < len(lags) else 0 for t, i in columns) for u in kept for j in range(r)]
+    for column, (t, _) in enumerate(columns):
+        pivot = next((row for row in rows if row[column]), None)
         if pivot is None:
-            if columns[column][0] == 0:
+            if t == target:
                 return False
             continue
         rows.remove(pivot)
-        factor = inverse.get(pivot[column]) or next(y for y in range(256) if times(pivot[column], y) == 1)
-        pivot = [times(factor, x) for x in pivot]
-        rows = [[x ^ times(row[column], y) for x, y in zip(row, pivot)] for row in rows]
-        rows.insert(rank, pivot)
-        rank += 1
+        pivot = pivot.translate(MULTIPLES[MULTIPLES[pivot[column]].index(1)])
+        rows = [bytes(map(operator.xor, row, pivot.translate(MULTIPLES[row[column]]))) for row in rows]
     return True
+
+
+def drawn_loss(seed, channel, count):
+    """The generated loss: a slot is lost where its word is divisible by 3 and its window is fine with it."""
+    w, b, n, _ = channel
+    flags = ""
+    for word in itertools.islice(words_of(seed), count):
+        lost = [i for i, flag in enumerate((flags + "1")[-w:]) if flag == "1"]
+        fine = len(lost) <= n or lost[-1] - lost[0] < b
+        flags += "1" if word % 3 == 0 and fine else "0"
+    return flags
+
+
+def tried(code, seed, count):
+    """Status, line and note of a trial: a packet comes back where what is known by its deadline leaves its block no choice."""
+    deadline = code["channel"][3]
+    flags = drawn_loss(seed, code["channel"], count + deadline)
+    missed = set()
+    for t in range(count):
+        if flags[t] == "1":
+            unknown = missed | {u for u in range(t, t + deadline + 1) if flags[u] == "1"}
+            kept = [u for u in range(min(unknown), t + deadline + 1) if flags[u] == "0"]
+            if not decided(code, unknown, kept, t):
+                missed.add(t)
+    line = "slots %d lost %d equal %d missed %d\n" % (len(flags), flags.count("1"), count - len(missed), len(missed))
+    return 5 if missed else 0, line.encode(), b"trial done\n"
 
 
 def classes(channel):
@@ -198,7 +215,8 @@ def checked(code):
     """The lines of a code that meets its channel, or the first class that isn't decided."""
     every = list(classes(code["channel"]))
     for index, loss in enumerate(every):
-        if not decided(code, loss):
+        lost = {t for t, flag in enumerate(loss) if flag}
+        if not decided(code, lost, [t for t in range(len(loss)) if t not in lost], 0):
             return index, loss
     return "meets %d %d %d %d " % tuple(code["channel"]) + "rate %d/%d classes %d\n" % (code["k"], code["k"] + code["r"], len(every))
 
