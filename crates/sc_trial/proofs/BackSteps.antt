@@ -1,5 +1,5 @@
 -- How many records come back: a walk over what was repaired finds those that aren't missed.
-use Rattle.std.proofs.Common.{◌≡◌, ℕ, zero, suc, ◌+◌, ◌-◌, ◌≤◌, ◌<◌, Bool, true, false, cond, List, [], ◌∷◌, ◌++◌, length, take, drop, map, Option, None, Some, is_none, is_some, nat_eq, refl, sym, ap, ◌∙◌, subst, arith, length-append, length-take-le}
+use Rattle.std.proofs.Common.{◌≡◌, ℕ, zero, suc, ◌+◌, ◌-◌, ◌*◌, ◌≤◌, ◌<◌, Bool, true, false, cond, List, [], ◌∷◌, ◌++◌, length, take, drop, map, Option, None, Some, is_none, is_some, nat_eq, refl, sym, ap, ◌∙◌, subst, arith, length-append, length-take-le, length-drop, zero-add}
 use Rattle.std.specs.Prelude.{count_by}
 use Rattle.std.specs.List.{AllByRecursion, starts_with}
 use Rattle.std.proofs.Math.Seq.{take-append_seam, drop-append_seam}
@@ -18,7 +18,7 @@ not_true true h = absurd (h refl)
 not_true false h = refl
 
 -- records each of which differs from all behind it
-pub AreApart : List Record → Type 0
+abbrev pub AreApart : List Record → Type 0
 AreApart [] = Unit {0}
 AreApart (e ∷ es) = AllByRecursion (λ f. e ≡ f → ⊥) es × AreApart es
 
@@ -59,6 +59,7 @@ walk (e ∷ es) (None ∷ values) same all apart =
     ((starts_is Decides-eqb back (record_bytes e) _ refl).0 starts)) in
     ap (λ c. cond c (1 + back_count (map record_bytes es) (drop (length (record_bytes e)) back)) (back_count (map record_bytes es) back)) none
     ∙ walk es values (omega (arith, same)) all.1 apart.1
+    ∙ sym (zero-add (count_by is_some values))
     ∙ sym (sum_by-cons (λ v. cond (is_some v) 1 0) None values)
 
 -- records of one length are the pieces of that length
@@ -70,10 +71,35 @@ pieces len (e ∷ es) all =
     rw (front, rest) (ap (λ l. record_bytes e ∷ l) (pieces len es all.1))
 
 -- a step of the walk
-pub walk_step : (n len : ℕ) (left back : List ℕ) (begins : Bool) → 0 < n → len ≤ length left → begins ≡ starts_with nat_eq back (take len left)
-    → back_count (cut n len left) back
-    ≡ cond begins (1 + back_count (cut (n - 1) len (drop len left)) (drop len back)) (back_count (cut (n - 1) len (drop len left)) back)
-walk_step zero len left back begins some room is = absurd (omega (arith, some))
-walk_step (suc n) len left back begins some room is =
+walk_step : (n len : ℕ) (left back : List ℕ) (begins : Bool) → len ≤ length left → begins ≡ starts_with nat_eq back (take len left)
+    → back_count (cut (suc n) len left) back
+    ≡ cond begins (1 + back_count (cut n len (drop len left)) (drop len back)) (back_count (cut n len (drop len left)) back)
+walk_step n len left back begins room is =
     ap (λ c. cond c (1 + back_count (cut n len (drop len left)) (drop (length (take len left)) back)) (back_count (cut n len (drop len left)) back)) (sym is)
     ∙ ap (λ m. cond begins (1 + back_count (cut n len (drop len left)) (drop m back)) (back_count (cut n len (drop len left)) back)) (length-take-le len left room)
+
+-- what the walk keeps
+pub walk_kept : (n i len equal equal' all : ℕ) (left back front behind back' : List ℕ) (begins : Bool) → i < n → (n - i) * len ≤ length left → front ≡ take len left → behind ≡ drop len left
+    → begins ≡ starts_with nat_eq back front → back' ≡ cond begins (drop len back) back → equal' ≡ cond begins (equal + 1) equal
+    → equal + back_count (cut (n - i) len left) back ≡ all
+    → (equal' + back_count (cut (n - (i + 1)) len behind) back' ≡ all) × ((n - (i + 1)) * len ≤ length behind)
+walk_kept n i len equal equal' all left back front behind back' begins small room front_is behind_is begins_is back_is equal_is sum =
+    let m = n - (i + 1) in
+    let more : n - i ≡ suc m = omega (arith, small) in
+    let room' : suc m * len ≤ length left = subst (λ k. k * len ≤ length left) more room in
+    let product : suc m * len ≡ m * len + len = omega arith in
+    let step = walk_step m len left back begins (omega (arith, room', product)) (begins_is ∙ ap (starts_with nat_eq back) front_is) in
+    let sum' : equal + back_count (cut (suc m) len left) back ≡ all = subst (λ k. equal + back_count (cut k len left) back ≡ all) more sum in
+    (by_case begins m step sum' back_is equal_is, subst (λ l. m * len ≤ length l) (sym behind_is) (omega (arith, room', product, length-drop len left)))
+  where
+    by_case : (begins : Bool) (m : ℕ) → back_count (cut (suc m) len left) back ≡ cond begins (1 + back_count (cut m len (drop len left)) (drop len back)) (back_count (cut m len (drop len left)) back)
+        → equal + back_count (cut (suc m) len left) back ≡ all → back' ≡ cond begins (drop len back) back → equal' ≡ cond begins (equal + 1) equal
+        → equal' + back_count (cut m len behind) back' ≡ all
+    by_case true m step sum back_is equal_is =
+        let same : back_count (cut m len behind) back' ≡ back_count (cut m len (drop len left)) (drop len back) =
+        ap (λ l. back_count (cut m len l) back') behind_is ∙ ap (back_count (cut m len (drop len left))) back_is in
+        omega (arith, step, sum, equal_is, same)
+    by_case false m step sum back_is equal_is =
+        let same : back_count (cut m len behind) back' ≡ back_count (cut m len (drop len left)) back =
+        ap (λ l. back_count (cut m len l) back') behind_is ∙ ap (back_count (cut m len (drop len left))) back_is in
+        omega (arith, step, sum, equal_is, same)

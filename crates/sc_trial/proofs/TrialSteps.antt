@@ -1,10 +1,12 @@
 -- The parts of a trial, one after the other.
-use Rattle.std.proofs.Common.{◌≡◌, ◌⊎◌, inl, inr, ℕ, zero, suc, ◌+◌, ◌-◌, ◌*◌, ◌^◌, ◌<◌, ◌≤◌, Bool, true, false, cond, List, [], ◌∷◌, ◌++◌, length, drop, map, filter, Option, None, Some, is_none, is_some, nat_lt, Result, Ok, Err, IsOk, IsErr, refl, sym, ap, ◌∙◌, subst, arith}
+use Rattle.std.proofs.Common.{◌≡◌, ◌⊎◌, inl, inr, ℕ, zero, suc, ◌+◌, ◌-◌, ◌*◌, ◌^◌, ◌<◌, ◌≤◌, Bool, true, false, cond, List, [], ◌∷◌, ◌++◌, length, drop, map, filter, Option, None, Some, is_none, is_some, nat_lt, Result, Ok, Err, IsOk, IsErr, refl, sym, ap, ◌∙◌, subst, arith, length-append}
 use Rattle.std.specs.Prelude.{count_by}
 use Rattle.std.specs.List.{AllByRecursion, range_with_len}
+use Rattle.std.proofs.Math.Nat.{mul-le-mul_right}
 use Rattle.std.proofs.Math.Seq.{drop-append_seam}
 use Rattle.std.proofs.lemmas.Bool.Decides.{nat_tests}
 use Rattle.std.proofs.lemmas.List.Sums.{sum_by-cons}
+use Rattle.std.proofs.lemmas.Nat.{mul-le}
 use Rattle.sc_matrix.specs.Layout.{cut}
 use Rattle.sc_matrix.specs.Module.{IsByte}
 use Rattle.sc_outside.specs.Ends.{Job, Ends}
@@ -21,7 +23,7 @@ use Rattle.sc_rtpdump.specs.Kind.{kind}
 use Rattle.sc_rtpdump.specs.Record.{Record, IsRecord, Front, ends, breaks, starts, front_of, record_bytes}
 use Rattle.sc_rtpdump.proofs.CaptureLaws.{length-record_bytes}
 use Rattle.sc_rtpdump.specs.Thin.{kept, end_at, rest_end, thin_end, thinning}
-use Rattle.sc_code.specs.Code.{IsCode}
+use Rattle.sc_code.specs.Code.{Code, IsCode}
 use Rattle.sc_code.specs.declared.code.CodeFile.{CodeFile}
 use Rattle.sc_slots.specs.Frame.{IsWidth}
 use Rattle.sc_slots.specs.Protected.{Protection, has_kind, rtp_part, packet_len, protection_of, protecting, protecting_within}
@@ -30,9 +32,11 @@ use Rattle.sc_repair.specs.Restoration.{IsSentBy, arrived}
 use Rattle.sc_repair.proofs.Restoration.{each_comes_back, values-are_outcomes}
 use Rattle.rand_pcg.specs.Lcg.{Lcg}
 use Rattle.sc_trial.specs.declared.outcome.Trial.{Trial}
+use Rattle.sc_trial.specs.declared.outcome.TrialFault.{TrialFault}
 use Rattle.sc_trial.specs.Draw.{generator}
 use Rattle.sc_trial.specs.Generated.{standard_preamble, generated_packet, generated_record, generated_records, generated}
 use Rattle.sc_trial.specs.GeneratedLaws.{IsWithinLimits}
+use Rattle.sc_trial.specs.Loss.{generated_loss}
 use Rattle.sc_trial.specs.Trial.{trial_records, trial_loss, trial_values, trial_taken, tried, trial_of, IsTrial}
 use Rattle.sc_trial.specs.TrialSteps.{ProtectsAs, ThinsAs, RepairsAs, back_count}
 use Rattle.sc_trial.proofs.BackSteps.{AreApart, walk, pieces}
@@ -47,8 +51,8 @@ grow-due job old new a ended unwritten no_room none =
     elim (Ends-due job (told_by_grow old) (told_by_grow new) (Ok a) ended) [
       | inl due ↦ (due.answered, sym (due.given ∙ ap (λ l. l ++ (job.whole old.left).text) none))
       | inr (inl read) ↦ absurd (omega (arith, read.1.more))
-      | inr (inr (inl write)) ↦ absurd (subst IsErr (sym write.0) unwritten)
-      | inr (inr (inr memory)) ↦ absurd (subst IsErr (sym memory) no_room)
+      | inr (inr (inl write)) ↦ absurd (cc (subst IsErr (sym write.0) unwritten))
+      | inr (inr (inr memory)) ↦ absurd (cc (subst IsErr (sym memory) no_room))
     ]
 
 -- ---- thinning
@@ -74,12 +78,16 @@ thin-ok flags (reads preamble parts) d e = by_test (nat_lt (length flags) (lengt
 -- ---- the size of a packet
 
 -- a protected packet has at most 64 symbols, each narrower than a frame
-pub packet_bound : (k r m size : ℕ) → k + r ≤ 64 → 1 ≤ k → size ≤ 1472 → IsWidth size k m → 24 + (k + r) * m ≤ 100000
-packet_bound k r m size few some small w =
+packet_small : (k r m size : ℕ) → k + r ≤ 64 → 1 ≤ k → size ≤ 1472 → IsWidth size k m → 24 + (k + r) * m ≤ 100000
+packet_small k r m size few some small w =
     let all : 1 * (size + 6) ≤ k * (size + 6) = mul-le-mul_right (size + 6) some in
     let narrow : m ≤ 1478 = omega (arith, w.least (size + 6) (omega (arith, all)), small) in
     let product : (k + r) * m ≤ 64 * 1478 = mul-le (k + r) m 64 1478 few narrow in
     omega (arith, product)
+
+pub packet_bound : (k r k' m size : ℕ) (code : Code ℕ) → k ≡ code.k → r ≡ code.r → k' ≡ code.k → IsCode IsByte code → size ≤ 1472 → IsWidth size k' m → 24 + (k + r) * m ≤ 100000
+packet_bound k r k' m size code k_is r_is k_is' is small w =
+    packet_small k r m size (omega (arith, k_is, r_is, is.in_range.size_limit)) (omega (arith, k_is, is.in_range.some_symbol)) small (subst (λ k. IsWidth size k m) (k_is' ∙ sym k_is) w)
 
 -- ---- the packets
 
@@ -109,6 +117,12 @@ generated-lengths : (g : Lcg) (count size : ℕ) → 12 ≤ size → AllByRecurs
 generated-lengths g count size least =
     all_from (λ e. length (record_bytes e) ≡ 8 + size) (λ i. generated_record g (i * (size - 12)) size i) 0 count
     (λ i far. omega (arith, length-record_bytes (generated_record g (i * (size - 12)) size i), length-generated_packet g (i * (size - 12)) size i least))
+
+length-records_bytes : (len : ℕ) (es : List Record) → AllByRecursion (λ e. length (record_bytes e) ≡ len) es → length (records_bytes es) ≡ length es * len
+length-records_bytes len [] h = omega arith
+length-records_bytes len (e ∷ es) h =
+    let product : (length es + 1) * len ≡ length es * len + len = omega arith in
+    omega (arith, length-append (record_bytes e) (records_bytes es), h.0, length-records_bytes len es h.1, product)
 
 -- what comes back and what is missed add up
 some_or_none : (values : List (Option (List (List ℕ)))) → count_by is_some values + count_by is_none values ≡ length values
@@ -165,6 +179,12 @@ module _ (file : CodeFile) (seed count size : ℕ) (within : IsWithinLimits coun
       ∙ ap (λ n. cut n (8 + size) (records_bytes es)) (sym count_is)
       ∙ pieces (8 + size) es (generated-lengths (generator seed) count size within.least)
 
+  pub input-length : length input ≡ 44 + count * (8 + size)
+  input-length =
+      let len : length (records_bytes es) ≡ length es * (8 + size) = length-records_bytes (8 + size) es (generated-lengths (generator seed) count size within.least) in
+      let product : length es * (8 + size) ≡ count * (8 + size) = ap (λ n. n * (8 + size)) count_is in
+      omega (arith, ap length (generated-capture seed count size within).parts, length-append standard_preamble (records_bytes es), len, product)
+
   back_is : (back : List ℕ) → back ≡ standard_preamble ++ records_bytes (kept (map is_none values) es)
       → back_count (cut count (8 + size) (drop 44 input)) (drop 44 back) ≡ count_by is_some values
   back_is back same =
@@ -174,10 +194,10 @@ module _ (file : CodeFile) (seed count size : ℕ) (within : IsWithinLimits coun
       ∙ walk es values (one_each ∙ sym count_is) (generated-fit seed count size within) (generated-apart (generator seed) count size)
 
   -- what the parts of a trial came to
-  pub Parts : List ℕ → List ℕ → List ℕ → Dropped → Type 0
-  Parts sent left back dropped = ProtectsAs file size input sent × ThinsAs flags sent left dropped × RepairsAs file left back
+  abbrev pub Course : List ℕ → List ℕ → List ℕ → Dropped → Type 0
+  Course sent left back dropped = ProtectsAs file size input sent × ThinsAs flags sent left dropped × RepairsAs file left back
 
-  restored : IsSentBy file size input standard_preamble es flags → (sent left back : List ℕ) (dropped : Dropped) → Parts sent left back dropped
+  restored : IsSentBy file size input standard_preamble es flags → (sent left back : List ℕ) (dropped : Dropped) → Course sent left back dropped
       → back ≡ standard_preamble ++ records_bytes (kept (map is_none values) es)
   restored by sent left back dropped parts =
       let same_left : arrived file size input flags ≡ left = ap (λ s. ((thinning flags).whole s).text) parts.0.given ∙ parts.1.given in
@@ -186,25 +206,59 @@ module _ (file : CodeFile) (seed count size : ℕ) (within : IsWithinLimits coun
       ∙ ap (λ d. d.text) (each_comes_back file size input standard_preamble es flags by)
       ∙ ap (λ rtp. standard_preamble ++ records_bytes (kept (map is_none values) rtp)) rtp_is
 
-  pub trial-gives : IsChannel file.channel → IsCode IsByte file.code → AreBytes input → IsAdmissible file.channel flags → length flags ≡ count + file.channel.t
-      → packet_len (protection_of file size) ≤ 65527 → (sent left back : List ℕ) (dropped : Dropped) → Parts sent left back dropped
+  pub back-length : IsSentBy file size input standard_preamble es flags → (sent left back : List ℕ) (dropped : Dropped) → Course sent left back dropped → 44 ≤ length back
+  back-length by sent left back dropped course =
+      let behind = records_bytes (kept (map is_none values) es) in
+      omega (arith, ap length (restored by sent left back dropped course), length-append standard_preamble behind)
+
+  -- what the parts gave is the course of the trial: the loss is told by another number that is the deadline, and the capture
+  -- by itself and by a copy
+  pub went : (capture copy : List ℕ) (deadline : ℕ) (loss : List Bool) → capture ≡ input → copy ≡ input → deadline ≡ file.channel.t
+      → IsChannel file.channel → IsCode IsByte file.code → AreBytes copy
+      → loss ≡ generated_loss (generator seed) file.channel (count + deadline) → length loss ≡ count + deadline → IsAdmissible file.channel loss
+      → (sent left back : List ℕ) (dropped : Dropped) → ProtectsAs file size capture sent → ThinsAs loss sent left dropped → RepairsAs file left back
+      → IsSentBy file size input standard_preamble es flags × Course sent left back dropped
+  went capture copy deadline loss capture_is copy_is deadline_is channel code bytes loss_is flag_count admissible sent left back dropped protects thins repairs =
+      let loss_is' : loss ≡ flags = loss_is ∙ ap (λ n. generated_loss (generator seed) file.channel (count + n)) deadline_is in
+      let protects' : ProtectsAs file size input sent = subst (λ l. ProtectsAs file size l sent) capture_is protects in (
+        record {
+          channel = channel;
+          code = code;
+          bytes = subst AreBytes copy_is bytes;
+          capture = generated-capture seed count size within;
+          is_protected = protects'.answered;
+          admissible = subst (IsAdmissible file.channel) loss_is' admissible;
+          flag_count = omega (arith, ap length loss_is', flag_count, deadline_is, ap length rtp_is, count_is);
+        },
+        (protects', subst (λ l. ThinsAs l sent left dropped) loss_is' thins, repairs),
+      )
+
+  -- the count, told of slices of the same bytes
+  pub sized : (copy back slice : List ℕ) (equal size' : ℕ) → size' ≡ size → copy ≡ input → slice ≡ back
+      → equal ≡ back_count (cut count (8 + size') (drop 44 copy)) (drop 44 slice) → equal ≡ back_count (cut count (8 + size) (drop 44 input)) (drop 44 back)
+  sized copy back slice equal size' size_is copy_is slice_is equal_is =
+      equal_is
+      ∙ ap (λ n. back_count (cut count (8 + n) (drop 44 copy)) (drop 44 slice)) size_is
+      ∙ ap (λ l. back_count (cut count (8 + size) (drop 44 l)) (drop 44 slice)) copy_is
+      ∙ ap (λ l. back_count (cut count (8 + size) (drop 44 input)) (drop 44 l)) slice_is
+
+  pub trial-gives : IsSentBy file size input standard_preamble es flags → packet_len (protection_of file size) ≤ 65527
+      → (sent left back : List ℕ) (dropped : Dropped) → Course sent left back dropped
       → (equal : ℕ) → equal ≡ back_count (cut count (8 + size) (drop 44 input)) (drop 44 back)
       → trial_of file seed count size ≡ Ok (record { slots = dropped.records; lost = dropped.lost; equal = equal; missed = count - equal })
-  trial-gives channel code bytes admissible flag_count limit sent left back dropped parts equal equal_is =
-      let by : IsSentBy file size input standard_preamble es flags =
-      record {
-        channel = channel;
-        code = code;
-        bytes = bytes;
-        capture = generated-capture seed count size within;
-        is_protected = parts.0.answered;
-        admissible = admissible;
-        flag_count = omega (arith, flag_count, ap length rtp_is, count_is);
-      } in
+  trial-gives by limit sent left back dropped course equal equal_is =
       let narrow : nat_lt 65527 (packet_len (protection_of file size)) ≡ false = grind (arith, nat_tests, limit) in
-      let done : dropped ≡ record { records = length flags; lost = set_count flags } = thin-ok flags _ dropped parts.1.answered in
-      let came : equal ≡ count_by is_some values = equal_is ∙ back_is back (restored by sent left back dropped parts) in
-      let slots_is : dropped.records ≡ count + file.channel.t = ap (λ d. d.records) done ∙ flag_count in
+      let done : dropped ≡ record { records = length flags; lost = set_count flags } = thin-ok flags _ dropped course.1.answered in
+      let came : equal ≡ count_by is_some values = equal_is ∙ back_is back (restored by sent left back dropped course) in
+      let slots_is : dropped.records ≡ count + file.channel.t =
+      omega (arith, ap (λ d. d.records) done, by.flag_count, ap length rtp_is, count_is) in
       let lost_is : dropped.lost ≡ set_count flags = ap (λ d. d.lost) done in
       let missed_is : count - equal ≡ count_by is_none values = omega (arith, some_or_none values, one_each, came) in
-      rw (narrow, slots_is, lost_is, came, missed_is) refl
+      rw (narrow, slots_is, lost_is, missed_is, came) refl
+
+  pub gives-is : (trial : Trial) → trial_of file seed count size ≡ Ok trial → IsTrial file seed count size trial
+  gives-is trial e = subst (IsTrial file seed count size) (by_test (nat_lt 65527 (packet_len (protection_of file size))) e) tried-is
+    where
+      by_test : (b : Bool) → cond b (Err (TrialFault.TooWide (packet_len (protection_of file size)))) (Ok (tried file seed count size)) ≡ Ok trial → tried file seed count size ≡ trial
+      by_test true e = absurd (cc)
+      by_test false e = cc

@@ -1,11 +1,14 @@
 //! A trial: a generated capture is protected, loses the generated loss, and is repaired, all in memory.
-ghost use Rattle.std.specs.Prelude.{◌≡◌, ◌+◌, ◌*◌, ◌≤◌, ◌<◌, drop, length, IfOk};
-ghost use Rattle.sc_code.specs.declared.code.CodeFile.{CodeFile as CodeFileOf};
+ghost use Rattle.std.specs.Prelude.{◌≡◌, ◌+◌, ◌*◌, ◌≤◌, drop, length, Ok, IfOk};
 ghost use Rattle.sc_channel.specs.declared.flags.TheConstants.{MAX_FLAGS};
+ghost use Rattle.sc_channel.specs.Channel.{IsChannel};
+ghost use Rattle.sc_code.specs.Code.{IsCode};
 ghost use Rattle.sc_matrix.specs.Layout.{cut};
+ghost use Rattle.sc_matrix.specs.Module.{IsByte};
+ghost use Rattle.sc_rtp.specs.Reading.{AreBytes};
 ghost use Rattle.sc_slots.specs.Protected.{packet_len, protection_of};
 ghost use Rattle.sc_trial.specs.Generated.{generated};
-ghost use Rattle.sc_trial.specs.Trial.{IsTrial, TrialGives};
+ghost use Rattle.sc_trial.specs.Trial.{IsTrial, TrialGives, trial_of};
 ghost use Rattle.sc_trial.specs.TrialSteps.{ProtectsAs, ThinsAs, RepairsAs, back_count};
 
 use super::capture::{MAX_SIZE, MIN_SIZE, gen_capture};
@@ -127,6 +130,47 @@ fn count_back(capture: &[u8], back: &[u8], count: u32, len: usize) -> u32
     equal
 }
 
+/// What is known of each code file and of each slice of bytes.
+fn known(file: &CodeFile, bytes: &[u8])
+    ensures code { IsCode IsByte file.now.code }
+    ensures channel { IsChannel file.now.channel }
+    ensures bytes { AreBytes bytes.now }
+{
+    file.code.k();
+    file.channel.t();
+}
+
+/// The numbers of a trial whose protected packets aren't too wide.
+fn try_code(
+    alloc: Global,
+    file: &CodeFile,
+    seed: u64,
+    count: u32,
+    size: u16,
+) -> Result<Trial, NoMemory>
+    requires count { count ≤ MAX_TRIAL }
+    requires least { MIN_SIZE ≤ size }
+    requires greatest { size ≤ MAX_SIZE }
+    requires narrow { packet_len (protection_of file.now size) ≤ MAX_PACKET }
+    ensures { IfOk result (λ trial. trial_of file.now seed count size ≡ Ok trial) }
+{
+    let capture = generate(alloc, seed, count, size)?;
+    let original = capture.to_vec(alloc)?;
+    known(file, original.as_slice());
+    let sent = protect(alloc, file, count, size, capture)?;
+    let flags = gen_loss(alloc, seed, &file.channel, count + file.channel.t())?;
+    let (arrived, dropped) = lose(alloc, &flags, sent)?;
+    let back = repair(alloc, file, arrived, original.len())?;
+    let len = RECORD_HEAD + usize::from(size);
+    let equal = count_back(original.as_slice(), back.as_slice(), count, len);
+    Ok(Trial {
+        slots: dropped.records,
+        lost: dropped.lost,
+        equal,
+        missed: count - equal,
+    })
+}
+
 /// A trial of a code: the generated capture of a seed, with `count` packets of `size` bytes, is protected, the channel loses the
 /// generated loss of the same seed, and what is left is repaired and compared with the capture, record by record. All is in
 /// memory: about four captures and twice the protected one at most.
@@ -149,20 +193,8 @@ pub fn trial(
     if packet > MAX_PACKET {
         return Err(TrialFault::TooWide(packet as u32));
     }
-    let capture = generate(alloc, seed, count, size)?;
-    let Ok(original) = capture.to_vec(alloc) else {
-        return Err(TrialFault::Memory);
-    };
-    let sent = protect(alloc, file, count, size, capture)?;
-    let flags = gen_loss(alloc, seed, &file.channel, count + file.channel.t())?;
-    let (arrived, dropped) = lose(alloc, &flags, sent)?;
-    let back = repair(alloc, file, arrived, original.len())?;
-    let record = RECORD_HEAD + usize::from(size);
-    let equal = count_back(original.as_slice(), back.as_slice(), count, record);
-    Ok(Trial {
-        slots: dropped.records,
-        lost: dropped.lost,
-        equal,
-        missed: count - equal,
-    })
+    match try_code(alloc, file, seed, count, size) {
+        Ok(trial) => Ok(trial),
+        Err(NoMemory) => Err(TrialFault::Memory),
+    }
 }

@@ -1,5 +1,4 @@
 //! What a trial comes to.
-use sc_outside::NoMemory;
 use std::error::Error;
 use std::fmt;
 
@@ -35,9 +34,3 @@ impl fmt::Display for TrialFault {
 }
 
 impl Error for TrialFault {}
-
-impl From<NoMemory> for TrialFault {
-    fn from(_error: NoMemory) -> TrialFault {
-        TrialFault::Memory
-    }
-}

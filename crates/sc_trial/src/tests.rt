@@ -2,6 +2,9 @@
 
 use super::*;
 use sc_channel::{Channel, first_bad_window};
+use sc_code::{Code, CodeFile};
+use sc_field::{Field, Gf256};
+use sc_matrix::Matrix;
 use sc_outside::{MemoryPort, NoMemory};
 use sc_rtpdump::{DumpRecord, Kind, kind_of, next_record, read_preamble};
 use std::alloc::Global;
@@ -118,5 +121,88 @@ fn generates_long_losses(rt: HostRuntime) -> Result<(), Fail> {
         assert_eq!(rt; first_bad_window(&channel, loss.as_slice()), None);
     }
     one_generated_loss();
+    Ok(())
+}
+
+// The code of blocks of one symbol whose parity has `r` symbols, the first of which is the block two slots before, for a
+// channel of windows of 3 slots, spans of 2, `n` losses anywhere and the deadline 2.
+fn delayed(alloc: Global, r: usize, n: u32) -> Result<CodeFile, Fail> {
+    let mut lags = Vec::new(alloc);
+    for lag in 0..3 {
+        let mut matrix = Matrix::zeros(alloc, 1, r.max(1))?;
+        if lag == 2 {
+            matrix.set(0, 0, Gf256::one());
+        }
+        lags.push(matrix)?;
+    }
+    Ok(CodeFile {
+        channel: Channel::new(3, 2, n, 2)?,
+        code: Code::new(1, r, lags)?,
+    })
+}
+
+// Trials as a Python script counts them, which draws the loss and judges each packet by itself: with this code one comes back
+// exactly where its own slot isn't lost or that of the deadline isn't. The second code doesn't meet its channel.
+#[test]
+fn counts_what_comes_back(rt: HostRuntime) -> Result<(), Fail> {
+    for (n, seed, count, size, numbers) in [
+        (1, 42, 4, 12, (6, 2, 4, 0)),
+        (1, 42, 60, 200, (62, 24, 60, 0)),
+        (1, 42, 0, 12, (2, 2, 0, 0)),
+        (2, 42, 60, 13, (62, 28, 54, 6)),
+        (2, 7, 1000, 172, (1002, 319, 916, 84)),
+        (2, 9, 1, 1472, (3, 1, 1, 0)),
+    ] {
+        let file = delayed(rt.alloc(), 1, n)?;
+        let (slots, lost, equal, missed) = numbers;
+        let want = Trial {
+            slots,
+            lost,
+            equal,
+            missed,
+        };
+        let trial = trial(rt.alloc(), &file, seed, count, size);
+        assert_eq!(rt; trial, Ok(want), "{n} {seed} {count} {size}");
+    }
+    Ok(())
+}
+
+// The most packets.
+#[test]
+fn counts_many(rt: HostRuntime) -> Result<(), Fail> {
+    let file = delayed(rt.alloc(), 1, 1)?;
+    let want = Trial {
+        slots: 10_002,
+        lost: 2521,
+        equal: 10_000,
+        missed: 0,
+    };
+    let trial = trial(rt.alloc(), &file, 7, MAX_TRIAL, 172);
+    assert_eq!(rt; trial, Ok(want));
+    Ok(())
+}
+
+// Of 24 bytes and 64 symbols of 1,478 bytes, and of 44 symbols, which is the least number that is too wide.
+#[test]
+fn refuses_wide_packets(rt: HostRuntime) -> Result<(), Fail> {
+    for (r, fault) in [(63, Some(94_616)), (44, Some(66_534)), (43, None)] {
+        let file = delayed(rt.alloc(), r, 1)?;
+        let right = match trial(rt.alloc(), &file, 42, 2, 1472) {
+            Ok(trial) => fault.is_none() && trial.equal == 2,
+            Err(TrialFault::TooWide(bytes)) => fault == Some(bytes),
+            Err(TrialFault::Memory) => false,
+        };
+        assert!(rt; right, "{r}");
+    }
+    for (fault, text) in [
+        (
+            TrialFault::TooWide(94_616),
+            "a protected packet has 94616 bytes",
+        ),
+        (TrialFault::Memory, "no memory"),
+    ] {
+        let printed = format!(in rt.alloc(); "{fault}")?;
+        assert_eq!(rt; printed.as_str(), text);
+    }
     Ok(())
 }
