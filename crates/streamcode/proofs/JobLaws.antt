@@ -38,9 +38,10 @@ use Rattle.sc_repair.specs.RepairLaws.{IsOfInput as IsRepairAnswer}
 use Rattle.sc_repair.specs.Repairing.{repairing}
 use Rattle.sc_repair.proofs.JobLaws.{repairing-IsJob, repairing-decided}
 use Rattle.sc_trial.specs.declared.outcome.Trial.{Trial}
+use Rattle.sc_trial.specs.declared.outcome.TrialFault.{TrialFault}
 use Rattle.sc_trial.specs.declared.outcome.TrialFault.TheVariants as unmade
 use Rattle.sc_trial.specs.Generated.{generated}
-use Rattle.sc_trial.specs.Trial.{tried, trial_of}
+use Rattle.sc_trial.specs.Trial.{tried, trial_of, TrialGives}
 use Rattle.streamcode.specs.declared.end.Role.{Role}
 use Rattle.streamcode.specs.declared.end.End.{End}
 use Rattle.streamcode.specs.declared.end.End.TheVariants.{Thinned, Generated, Protected, Repaired, Bound, Designed, Accepted, Refused, CertificateRefused, LossRefused, Usage, Capture, MoreRecords, FewerRecords, FileRefused, FileTooLong, PacketTooWide, PacketTooLong, TooManyRecords, TooManySlots, TooManySymbols, WrongCode, BadShape, OtherWidth, OtherEnd, BadBlock, Clash, NoCode, TooManyClasses, Tried, ReadFault, WriteFault, NoMemory}
@@ -515,10 +516,11 @@ pub trial_memory : (file : CodeFile) (seed count size : ℕ) (told : Told) → E
 trial_memory file seed count size told =
     let packet = packet_len (protection_of file size) in trial_by_memory (nat_lt 65527 packet) packet (tried file seed count size) told
 
-pub trial_wide : (file : CodeFile) (seed count size packet : ℕ) (told : Told) → trial_of file seed count size ≡ Err (unmade.TooWide packet)
+pub trial_wide : (file : CodeFile) (seed count size : ℕ) (fault : TrialFault) (packet : ℕ) (told : Told) → TrialGives file seed count size (Err fault) → fault ≡ unmade.TooWide packet
     → Ends (trial_job file seed count size) told told (PacketTooWide packet)
-trial_wide file seed count size packet told e =
-    subst (λ r. Ends (trial_by r) told told (PacketTooWide packet)) (sym e) (Ends-at_once (PacketTooWide packet) ReadFault WriteFault NoMemory true told)
+trial_wide file seed count size fault packet told gives is =
+    let wide : trial_of file seed count size ≡ Err (unmade.TooWide packet) = subst (λ f. TrialGives file seed count size (Err f)) is gives in
+    subst (λ r. Ends (trial_by r) told told (PacketTooWide packet)) (sym wide) (Ends-at_once (PacketTooWide packet) ReadFault WriteFault NoMemory true told)
 
 pub trial_given : (file : CodeFile) (seed count size : ℕ) (trial : Trial) (text : List ℕ) (end : End) (old new : Told) → trial_of file seed count size ≡ Ok trial → text ≡ trial_line trial
     → Ends (giving (Tried trial) text) old new end → Ends (trial_job file seed count size) old new end

@@ -31,21 +31,21 @@ words-tried files words code file seed count size input asked h =
 
 -- ---- how many values are missing
 module _ {X : Type 0} where
+  abbrev weight : Option X → ℕ
+  weight v = cond (is_none v) 1 0
+
   -- where one is, the count isn't 0
   counted : (values : List (Option X)) (t : ℕ) → t < length values → slice_index_or values t None ≡ None → 1 ≤ count_by is_none values
   counted [] t small e = absurd (omega (arith, small))
-  counted (v ∷ values) naught small e =
-      let here : cond (is_none v) 1 0 ≡ 1 = ap (λ w. cond (is_none w) 1 0) e in
-      omega (arith, here, sum_by-cons (λ w. cond (is_none w) 1 0) v values)
-  counted (v ∷ values) (suc t) small e =
-      omega (arith, counted values t (omega (arith, small)) e, sum_by-cons (λ w. cond (is_none w) 1 0) v values)
+  counted (v ∷ values) naught small e = let here : weight v ≡ 1 = ap weight e in omega (arith, here, sum_by-cons weight v values)
+  counted (v ∷ values) (suc t) small e = omega (arith, counted values t (omega (arith, small)) e, sum_by-cons weight v values)
 
   -- and where it isn't 0, one is
   found : (values : List (Option X)) → 1 ≤ count_by is_none values → (t : ℕ) × (t < length values) × (slice_index_or values t None ≡ None)
   found [] some = absurd (omega (arith, some))
   found (None ∷ values) some = (0, omega arith, refl)
   found (Some x ∷ values) some =
-      let behind = found values (omega (arith, some, sum_by-cons (λ w. cond (is_none w) 1 0) (Some x) values)) in
+      let behind = found values (omega (arith, some, sum_by-cons weight (Some x) values)) in
       (suc behind.0, omega (arith, behind.1), behind.2)
 
 -- ---- statuses
