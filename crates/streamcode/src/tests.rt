@@ -1,4 +1,6 @@
 //! Whole runs over objects in memory. What is wanted is written out by hand from the format.
+ghost use Rattle.std.specs.Prelude.{◌≤◌};
+
 mod checking;
 mod designing;
 mod losing;
