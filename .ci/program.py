@@ -6,6 +6,7 @@ What is wanted is worked out from the format alone, by a few lines of another la
 import functools
 import itertools
 import json
+import operator
 import os
 import random
 import struct
@@ -159,31 +160,47 @@ def repeated(data, flags):
     return 5 if lost else 0, thinned(start, kept), b"slots %d missed %d strangers 0 repeats 0\n" % (end, len(lost))
 
 
-def decided(code, loss):
-    """Whether the kept slots of a loss leave block 0 of a stream over GF(256) no choice: elimination of the lost symbols, block 0 last."""
+def decided(code, unknown, kept, target):
+    """Whether kept slots leave a block of a stream over GF(256) no choice where these blocks aren't known: elimination, that block last."""
     k, r, lags = code["k"], code["r"], code["lags"]
-    columns = [(t, i) for t, lost in reversed(list(enumerate(loss))) if lost for i in range(k)]
-    rows = [
-        [lags[u - t][i][j] if t <= u and u - t < len(lags) else 0 for t, i in columns]
-        for u, lost in enumerate(loss)
-        if not lost
-        for j in range(r)
-    ]
-    inverse = {x: next(y for y in range(256) if times(x, y) == 1) for x in set(sum(rows, [])) - {0}}
-    rank = 0
-    for column in range(len(columns)):
-        pivot = next((row for row in rows[rank:] if row[column]), None)
+    columns = [(t, i) for t in sorted(unknown - {target}) + [target] for i in range(k)]
+    rows = [bytes(lags[u - t][i][j] if 0 <= u - t < len(lags) else 0 for t, i in columns) for u in kept for j in range(r)]
+    for column, (t, _) in enumerate(columns):
+        pivot = next((row for row in rows if row[column]), None)
         if pivot is None:
-            if columns[column][0] == 0:
+            if t == target:
                 return False
             continue
         rows.remove(pivot)
-        factor = inverse.get(pivot[column]) or next(y for y in range(256) if times(pivot[column], y) == 1)
-        pivot = [times(factor, x) for x in pivot]
-        rows = [[x ^ times(row[column], y) for x, y in zip(row, pivot)] for row in rows]
-        rows.insert(rank, pivot)
-        rank += 1
+        pivot = pivot.translate(MULTIPLES[MULTIPLES[pivot[column]].index(1)])
+        rows = [bytes(map(operator.xor, row, pivot.translate(MULTIPLES[row[column]]))) for row in rows]
     return True
+
+
+def drawn_loss(seed, channel, count):
+    """The generated loss: a slot is lost where its word is divisible by 3 and its window is fine with it."""
+    w, b, n, _ = channel
+    flags = ""
+    for word in itertools.islice(words_of(seed), count):
+        lost = [i for i, flag in enumerate((flags + "1")[-w:]) if flag == "1"]
+        fine = len(lost) <= n or lost[-1] - lost[0] < b
+        flags += "1" if word % 3 == 0 and fine else "0"
+    return flags
+
+
+def tried(code, seed, count):
+    """Status, line and note of a trial: a packet comes back where what is known by its deadline leaves its block no choice."""
+    deadline = code["channel"][3]
+    flags = drawn_loss(seed, code["channel"], count + deadline)
+    missed = set()
+    for t in range(count):
+        if flags[t] == "1":
+            unknown = missed | {u for u in range(t, t + deadline + 1) if flags[u] == "1"}
+            kept = [u for u in range(min(unknown), t + deadline + 1) if flags[u] == "0"]
+            if not decided(code, unknown, kept, t):
+                missed.add(t)
+    line = "slots %d lost %d equal %d missed %d\n" % (len(flags), flags.count("1"), count - len(missed), len(missed))
+    return 5 if missed else 0, line.encode(), b"trial done\n"
 
 
 def classes(channel):
@@ -198,7 +215,8 @@ def checked(code):
     """The lines of a code that meets its channel, or the first class that isn't decided."""
     every = list(classes(code["channel"]))
     for index, loss in enumerate(every):
-        if not decided(code, loss):
+        lost = {t for t, flag in enumerate(loss) if flag}
+        if not decided(code, lost, [t for t in range(len(loss)) if t not in lost], 0):
             return index, loss
     return "meets %d %d %d %d " % tuple(code["channel"]) + "rate %d/%d classes %d\n" % (code["k"], code["k"] + code["r"], len(every))
 
@@ -417,12 +435,12 @@ with tempfile.TemporaryDirectory() as folder:
 
     # Codes, judged again by elimination. Of one that fails the class is compared, and that its stream refutes it.
     drawn = random.Random(5)
-    tried = [json.load(open(burst)), json.load(open(repeats))]
+    tried_codes = [json.load(open(burst)), json.load(open(repeats))]
     for w, b, n, t, k, r in [(4, 3, 2, 3, 2, 2), (4, 3, 2, 3, 2, 3), (6, 3, 3, 4, 2, 3), (5, 2, 2, 4, 3, 3), (9, 4, 2, 6, 3, 3), (9, 2, 2, 6, 4, 2)] * 3:
         rows = lambda: [[drawn.choice([0, 1, drawn.randrange(256)]) for _ in range(r)] for _ in range(k)]
-        tried.append({"channel": [w, b, n, t], "k": k, "lags": [rows() for _ in range(drawn.randrange(1, t + 2))], "r": r})
+        tried_codes.append({"channel": [w, b, n, t], "k": k, "lags": [rows() for _ in range(drawn.randrange(1, t + 2))], "r": r})
     met = 0
-    for number, code in enumerate(tried):
+    for number, code in enumerate(tried_codes):
         name, wanted = named("code.json", json.dumps(code)), checked(code)
         if isinstance(wanted, str):
             met += 1
@@ -441,7 +459,7 @@ with tempfile.TemporaryDirectory() as folder:
         zero = [not any(stream[u]) and not any(parity(u, j) for j in range(code["r"])) for u, lost in enumerate(wanted[1]) if not lost]
         expect(f"check of code {number}: the stream refutes", (len(stream), any(stream[0]), all(zero)), (code["channel"][3] + 1, True, True))
         expect(f"check of code {number}: the other", lines[3:], ["other " + " ".join(",".join("0" * code["k"]) for _ in stream), ""])
-    expect("codes that meet their channel, and codes that don't", 2 <= met <= len(tried) - 5, True)
+    expect("codes that meet their channel, and codes that don't", 2 <= met <= len(tried_codes) - 5, True)
     answers("many classes", ["check", named("many.json", json.dumps({"channel": [41, 7, 7, 40], "k": 1, "lags": [[[1]]], "r": 1})), "1"], held(capture), 11, b"", b"classes 3838381\n")
 
     # Certificates.
@@ -479,13 +497,35 @@ with tempfile.TemporaryDirectory() as folder:
     expect("the example's code", open(optimal, "rb").read(), text)
     answers("it meets its channel", ["check", optimal, "4"], empty(), 0, b"meets 11 4 2 10 rate 9/13 classes 11\n", b"accepted\n")
 
+    # Trials of codes that meet their channel, and of codes that don't.
+    trials = [(json.load(open(name)), *words) for name, *words in [(repeats, 42, 4, 12), (repeats, 7, 10000, 172), (optimal, 7, 500, 172), (burst, 42, 200, 1472)]]
+    trials += [(code, seed, 60, 30) for code in tried_codes for seed in (42, 2**64 - 1)]
+    statuses = set()
+    for code, seed, count, size in trials:
+        wanted = tried(code, seed, count)
+        statuses.add(wanted[0])
+        line = ["trial", named("code.json", json.dumps(code)), str(seed), str(count), str(size)]
+        answers(" ".join(line), line, empty(), *wanted)
+    expect("trials that miss nothing, and trials that do", statuses, {0, 5})
+    expect("the trial of 42", tried(json.load(open(repeats)), 42, 4)[1], b"slots 6 lost 2 equal 4 missed 0\n")
+    expect("the trial of 7", tried(json.load(open(repeats)), 7, 10000)[1], b"slots 10002 lost 2521 equal 10000 missed 0\n")
+    expect("the example's trial", tried(json.load(open(optimal)), 7, 500)[1], b"slots 510 lost 83 equal 500 missed 0\n")
+    example = os.path.join(top, "examples", "repeat.json")
+    answers("a trial that misses", ["trial", example, "42", "40", "172"], empty(), 5, b"slots 42 lost 19 equal 37 missed 3\n", b"trial done\n")
+    wide = {"channel": [2, 1, 1, 1], "k": 1, "lags": [[[0] * 63]], "r": 63}
+    answers("a wide trial", ["trial", named("wide.json", json.dumps(wide)), "42", "4", "1472"], empty(), 4, b"", b"limit packet 94616\n")
+    answers("a trial of no code", ["trial", sample, "42", "4", "12"], empty(), 3, b"", b"code shape other\n")
+    answers("a trial of no file", ["trial", os.path.join(folder, "none.json"), "42", "4", "12"], empty(), 7, b"", b"read fault\n")
+    for line in ["trial x 42 10001 12", "trial x 42 4 11", "trial x 42 4", "trials x 42 4 12"]:
+        answers(line, line.split(), empty(), 2, b"", b"usage\n")
+
     # A folder can't be read, and nothing can be written to a device that is full.
     directory = os.open(folder, os.O_RDONLY)
     answers("a failed read", losing("0"), directory, 7, b"", b"read fault\n")
     os.close(directory)
     if os.path.exists("/dev/full"):
         with open("/dev/full", "wb") as full:
-            for words in [lose, ["gen", "7", "3", "20"], ["protect", burst, "200"], ["repair", repeats], ["check", repeats, "1"], ["bound", "3", "2", "1", "2"]]:
+            for words in [lose, ["gen", "7", "3", "20"], ["protect", burst, "200"], ["repair", repeats], ["check", repeats, "1"], ["bound", "3", "2", "1", "2"], ["trial", repeats, "7", "3", "20"]]:
                 done = run(words, held(capture), stdout=full)
                 expect(f"{words[0]}, a failed write: status", done.returncode, 8)
                 expect(f"{words[0]}, a failed write: note", done.stderr, b"write fault\n")

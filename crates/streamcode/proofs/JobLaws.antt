@@ -37,12 +37,16 @@ use Rattle.sc_repair.specs.declared.repairer.Unfit.TheVariants as unfit
 use Rattle.sc_repair.specs.RepairLaws.{IsOfInput as IsRepairAnswer}
 use Rattle.sc_repair.specs.Repairing.{repairing}
 use Rattle.sc_repair.proofs.JobLaws.{repairing-IsJob, repairing-decided}
+use Rattle.sc_trial.specs.declared.outcome.Trial.{Trial}
+use Rattle.sc_trial.specs.declared.outcome.TrialFault.{TrialFault}
+use Rattle.sc_trial.specs.declared.outcome.TrialFault.TheVariants as unmade
 use Rattle.sc_trial.specs.Generated.{generated}
+use Rattle.sc_trial.specs.Trial.{tried, trial_of, TrialGives}
 use Rattle.streamcode.specs.declared.end.Role.{Role}
 use Rattle.streamcode.specs.declared.end.End.{End}
-use Rattle.streamcode.specs.declared.end.End.TheVariants.{Thinned, Generated, Protected, Repaired, Bound, Designed, Accepted, Refused, CertificateRefused, LossRefused, Usage, Capture, MoreRecords, FewerRecords, FileRefused, FileTooLong, PacketTooWide, PacketTooLong, TooManyRecords, TooManySlots, TooManySymbols, WrongCode, BadShape, OtherWidth, OtherEnd, BadBlock, Clash, NoCode, TooManyClasses, ReadFault, WriteFault, NoMemory}
+use Rattle.streamcode.specs.declared.end.End.TheVariants.{Thinned, Generated, Protected, Repaired, Bound, Designed, Accepted, Refused, CertificateRefused, LossRefused, Usage, Capture, MoreRecords, FewerRecords, FileRefused, FileTooLong, PacketTooWide, PacketTooLong, TooManyRecords, TooManySlots, TooManySymbols, WrongCode, BadShape, OtherWidth, OtherEnd, BadBlock, Clash, NoCode, TooManyClasses, Tried, ReadFault, WriteFault, NoMemory}
 use Rattle.streamcode.specs.End.{status_of, end_of_drop, end_of_protect, end_of_repair, end_of_design}
-use Rattle.streamcode.specs.Jobs.{refusal, giving, lose_by, lose_job, gen_job, protect_job, repair_job, check_by, check_job, bound_job, certify_by, certify_job, maker_of, design_text, design_by, design_job, IsSilent}
+use Rattle.streamcode.specs.Jobs.{refusal, giving, lose_by, lose_job, gen_job, protect_job, repair_job, check_by, check_job, bound_job, certify_by, certify_job, maker_of, design_text, design_by, design_job, trial_by, trial_job, IsSilent}
 use Rattle.sc_check.specs.Answer.{refuted_of}
 use Rattle.sc_optimal.specs.declared.design.Found.{Found}
 use Rattle.sc_optimal.specs.declared.kind.DesignFault.{DesignFault}
@@ -52,6 +56,7 @@ use Rattle.sc_optimal.specs.Candidates.{candidate, candidate_count, candidate_wi
 use Rattle.sc_optimal.specs.Design.{is_not_burst, found_at, first_from, design_of}
 use Rattle.sc_words.specs.declared.words.Kind.{Kind}
 use Rattle.streamcode.specs.Bound.{bound_line}
+use Rattle.streamcode.specs.Trial.{trial_line}
 use Rattle.streamcode.specs.Verdict.{verdict_end, meets_text, fails_text, verdict_text}
 
 -- ends that the words and the input decide
@@ -60,6 +65,7 @@ IsOfInput (Thinned dropped) = Unit {0}
 IsOfInput (Generated records) = Unit {0}
 IsOfInput (Protected done) = Unit {0}
 IsOfInput (Repaired totals) = Unit {0}
+IsOfInput (Tried trial) = Unit {0}
 IsOfInput Accepted = Unit {0}
 IsOfInput Refused = Unit {0}
 IsOfInput (Bound kept period) = Unit {0}
@@ -94,15 +100,16 @@ pub record IsInside (status : ℕ) : Type 0 where
   pub formed : status ≢ 2
   pub inside : (status < 7) ⊎ (9 < status)
 
-repaired_inside : (none : Bool) → IsInside (if none then 0 else 5)
-repaired_inside true = record { formed = λ e. omega (arith, e); inside = inl (omega arith) }
-repaired_inside false = record { formed = λ e. omega (arith, e); inside = inl (omega arith) }
+missed_inside : (none : Bool) → IsInside (if none then 0 else 5)
+missed_inside true = record { formed = λ e. omega (arith, e); inside = inl (omega arith) }
+missed_inside false = record { formed = λ e. omega (arith, e); inside = inl (omega arith) }
 
 pub of_input_inside : (end : End) → IsOfInput end → IsInside (status_of end)
 of_input_inside (Thinned dropped) h = record { formed = λ e. omega (arith, e); inside = inl (omega arith) }
 of_input_inside (Generated records) h = record { formed = λ e. omega (arith, e); inside = inl (omega arith) }
 of_input_inside (Protected done) h = record { formed = λ e. omega (arith, e); inside = inl (omega arith) }
-of_input_inside (Repaired totals) h = repaired_inside (totals.missed == 0)
+of_input_inside (Repaired totals) h = missed_inside (totals.missed == 0)
+of_input_inside (Tried trial) h = missed_inside (trial.missed == 0)
 of_input_inside Accepted h = record { formed = λ e. omega (arith, e); inside = inl (omega arith) }
 of_input_inside (Bound kept period) h = record { formed = λ e. omega (arith, e); inside = inl (omega arith) }
 of_input_inside (CertificateRefused residue) h = record { formed = λ e. omega (arith, e); inside = inl (omega arith) }
@@ -271,6 +278,14 @@ design_by-is channel (Err design.Memory) h = absurd h
 
 pub design_job-is : (kind : Kind) (channel : ChannelNumbers) → IsProgramJob (design_job kind channel)
 design_job-is kind channel = design_by-is channel (design_of (maker_of kind) channel) (design_answer (maker_of kind) channel)
+
+trial_by-is : (wide : Bool) (packet : ℕ) (trial : Trial) → IsProgramJob (trial_by (cond wide (Err (unmade.TooWide packet)) (Ok trial)))
+trial_by-is true packet trial = record { run = refusal-is true (PacketTooWide packet); of_input = λ input. tt }
+trial_by-is false packet trial = giving-is (Tried trial) (trial_line trial) tt
+
+pub trial_job-is : (file : CodeFile) (seed count size : ℕ) → IsProgramJob (trial_job file seed count size)
+trial_job-is file seed count size =
+    let packet = packet_len (protection_of file size) in trial_by-is (nat_lt 65527 packet) packet (tried file seed count size)
 
 decided_of_input : (result : Result Done ProtectFault) → IsDecidedAnswer result → IsOfInput (end_of_protect result)
 decided_of_input (Ok done) h = tt
@@ -491,3 +506,30 @@ pub design_gives : (kind : Kind) (channel : ChannelNumbers) (result : Result Fou
 design_gives kind channel result found (inl memory) is silent = absurd (cc)
 design_gives kind channel result found (inr answer) is silent =
     design_by_gives channel found (subst (λ a. IsSilent (design_by channel a)) (sym answer ∙ is) silent)
+
+-- ---- how `trial` ends
+trial_by_memory : (wide : Bool) (packet : ℕ) (trial : Trial) (told : Told) → Ends (trial_by (cond wide (Err (unmade.TooWide packet)) (Ok trial))) told told NoMemory
+trial_by_memory true packet trial told = Ends-no_memory (refusal true (PacketTooWide packet)) told refl
+trial_by_memory false packet trial told = Ends-no_memory (giving (Tried trial) (trial_line trial)) told refl
+
+pub trial_memory : (file : CodeFile) (seed count size : ℕ) (told : Told) → Ends (trial_job file seed count size) told told NoMemory
+trial_memory file seed count size told =
+    let packet = packet_len (protection_of file size) in trial_by_memory (nat_lt 65527 packet) packet (tried file seed count size) told
+
+pub trial_wide : (file : CodeFile) (seed count size : ℕ) (fault : TrialFault) (packet : ℕ) (told : Told) → TrialGives file seed count size (Err fault) → fault ≡ unmade.TooWide packet
+    → Ends (trial_job file seed count size) told told (PacketTooWide packet)
+trial_wide file seed count size fault packet told gives is =
+    let wide : trial_of file seed count size ≡ Err (unmade.TooWide packet) = subst (λ f. TrialGives file seed count size (Err f)) is gives in
+    subst (λ r. Ends (trial_by r) told told (PacketTooWide packet)) (sym wide) (Ends-at_once (PacketTooWide packet) ReadFault WriteFault NoMemory true told)
+
+pub trial_given : (file : CodeFile) (seed count size : ℕ) (trial : Trial) (text : List ℕ) (end : End) (old new : Told) → trial_of file seed count size ≡ Ok trial → text ≡ trial_line trial
+    → Ends (giving (Tried trial) text) old new end → Ends (trial_job file seed count size) old new end
+trial_given file seed count size trial text end old new e is h =
+    subst (λ r. Ends (trial_by r) old new end) (sym e) (subst (λ l. Ends (giving (Tried trial) l) old new end) is h)
+
+-- a line isn't empty
+trial_by_gives : (trial : Trial) → IsSilent (trial_by (Ok trial)) → ⊥
+trial_by_gives trial silent = cc silent.nothing
+
+pub trial_gives : (file : CodeFile) (seed count size : ℕ) (trial : Trial) → trial_of file seed count size ≡ Ok trial → IsSilent (trial_job file seed count size) → ⊥
+trial_gives file seed count size trial e silent = trial_by_gives trial (subst (λ r. IsSilent (trial_by r)) e silent)

@@ -8,4 +8,5 @@ pub mod CertifyLaws
 pub mod CandidateSteps
 pub mod DesignLaws
 pub mod RepairLaws
+pub mod TrialLaws
 pub mod InTimeLaws

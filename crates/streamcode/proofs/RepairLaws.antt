@@ -23,7 +23,7 @@ use Rattle.sc_repair.specs.Values.{outcomes}
 use Rattle.sc_repair.proofs.ValueLaws.{outcomes-are}
 use Rattle.streamcode.specs.declared.end.Role.TheVariants.{Code}
 use Rattle.streamcode.specs.declared.end.End.{End}
-use Rattle.streamcode.specs.End.{repaired_status, status_of, end_of_repair}
+use Rattle.streamcode.specs.End.{missed_status, status_of, end_of_repair}
 use Rattle.streamcode.specs.Jobs.{repair_job}
 use Rattle.streamcode.specs.Plans.{owes}
 use Rattle.streamcode.specs.RepairLaws.{due_of_repair, CodeFileSaysWhatIsDue, taken_in, symbol_bytes, IsMissedOf, IsUnrefused, RecoveredIsDue, Misses, ZeroIsNoneMissed, FiveIsSomeMissed, HasClashAt, SixIsClash}
@@ -95,7 +95,7 @@ some_by : (missed : ℕ) (none : Bool) → (missed == 0) ≡ none → done_statu
 some_by missed true e h = absurd (omega (arith, h))
 some_by missed false e h = grind (arith, nat_tests, e)
 
-status_some : (missed : ℕ) → 1 ≤ missed → repaired_status missed ≡ 5
+status_some : (missed : ℕ) → 1 ≤ missed → missed_status missed ≡ 5
 status_some missed h = let test : (missed == 0) ≡ false = grind (arith, nat_tests, h) in ap done_status test
 
 not_six : (none : Bool) → done_status none ≡ 6 → ⊥
@@ -173,7 +173,7 @@ module _ (file : CodeFile) where
   whole input fits d = reading_whole input (reading_of input) fits refl d
 
   status_whole : (input preamble : List ℕ) (records : List Record) → IsCapture input preamble records → IsUnrefused file records
-      → status_of (due_of_repair file input).answer ≡ repaired_status (missed_of file (slots_in file records))
+      → status_of (due_of_repair file input).answer ≡ missed_status (missed_of file (slots_in file records))
   status_whole input preamble records c u = ap (λ (d : Due End). status_of d.answer) (due_whole input preamble records c u)
 
   zero_misses : (input : List ℕ) → AreBytes input → status_of (due_of_repair file input).answer ≡ 0 → Misses file input 0
@@ -192,8 +192,8 @@ module _ (file : CodeFile) where
         record { preamble = w.preamble; records = w.records; capture = w.capture; unrefused = w.unrefused; missed_is = missed_there w.records },
       )
 
-  misses_status : (input : List ℕ) (missed : ℕ) → Misses file input missed → status_of (due_of_repair file input).answer ≡ repaired_status missed
-  misses_status input missed h = status_whole input h.preamble h.records h.capture h.unrefused ∙ ap repaired_status (missed_same h.records missed h.missed_is)
+  misses_status : (input : List ℕ) (missed : ℕ) → Misses file input missed → status_of (due_of_repair file input).answer ≡ missed_status missed
+  misses_status input missed h = status_whole input h.preamble h.records h.capture h.unrefused ∙ ap missed_status (missed_same h.records missed h.missed_is)
 
   -- ---- where there is a clash
   bad_not_six : (preamble : List ℕ) (records : List Record) (values : List (Option (List (List ℕ)))) (place : Option ℕ)

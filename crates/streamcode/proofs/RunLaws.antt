@@ -14,11 +14,11 @@ use Rattle.streamcode.specs.declared.end.End.{End}
 use Rattle.streamcode.specs.declared.end.End.TheVariants.{FileTooLong, Usage, ReadFault}
 use Rattle.streamcode.specs.End.{status_of}
 use Rattle.streamcode.specs.Files.{by_reading, by_bytes, certificate_plan, loss_plan}
-use Rattle.streamcode.specs.Jobs.{refusal, lose_job, protect_job, repair_job, check_job, certify_job}
+use Rattle.streamcode.specs.Jobs.{refusal, lose_job, protect_job, repair_job, check_job, certify_job, trial_job}
 use Rattle.streamcode.specs.Plans.{Plan, owes, fetches, most_fetched, due_by, due_of, PlanEnds, IsSilentPlan, LacksOne}
 use Rattle.streamcode.specs.Runs.{command_plan, files_of, IsDueStatus, ReadRose, IsOutsideStatus, IsQuiet}
-use Rattle.sc_words.specs.Words.{Command, lose, generate, protect, check, repair, bound, certify, design}
-use Rattle.streamcode.proofs.JobLaws.{not_inside, of_input_inside, IsRunJob, IsProgramJob, refusal-is, lose_job-is, gen_job-is, protect_job-is, repair_job-is, check_job-is, bound_job-is, certify_job-is, design_job-is, file_refused-is, file_too_long-is}
+use Rattle.sc_words.specs.Words.{Command, lose, generate, protect, check, repair, bound, certify, design, trial}
+use Rattle.streamcode.proofs.JobLaws.{not_inside, of_input_inside, IsRunJob, IsProgramJob, refusal-is, lose_job-is, gen_job-is, protect_job-is, repair_job-is, check_job-is, bound_job-is, certify_job-is, design_job-is, trial_job-is, file_refused-is, file_too_long-is}
 
 -- ---- what the plans of commands keep
 abbrev IsAmong : List ℕ → List (List ℕ) → Type 0
@@ -69,6 +69,7 @@ program_plan (check code workers) = (inl refl, bytes_plan Code code_reading (cod
 program_plan (repair code) = (inl refl, bytes_plan Code code_reading (code ∷ []) (λ file. owes (repair_job file)) (λ file. repair_job-is file))
 program_plan (bound channel) = bound_job-is channel
 program_plan (design kind channel) = design_job-is kind channel
+program_plan (trial code seed count size) = (inl refl, bytes_plan Code code_reading (code ∷ []) (λ file. owes (trial_job file seed count size)) (λ file. trial_job-is file seed count size))
 program_plan (certify code cert) = (
   inl refl,
   bytes_plan Code code_reading (code ∷ cert ∷ []) (λ file. certificate_plan cert (λ certificate. owes (certify_job file certificate)))

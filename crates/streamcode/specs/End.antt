@@ -23,18 +23,19 @@ use Rattle.sc_optimal.specs.declared.kind.DesignFault.TheVariants as design
 use Rattle.streamcode.specs.declared.end.Role.{Role}
 use Rattle.streamcode.specs.declared.end.Role.TheVariants.{Code, Certificate, Loss as ALoss}
 use Rattle.streamcode.specs.declared.end.End.{End}
-use Rattle.streamcode.specs.declared.end.End.TheVariants.{Thinned, Generated, Protected, Repaired, Bound, Designed, Accepted, Refused, CertificateRefused, LossRefused, Usage, Capture, MoreRecords, FewerRecords, FileRefused, FileTooLong, PacketTooWide, PacketTooLong, TooManyRecords, TooManySlots, TooManySymbols, WrongCode, BadShape, OtherWidth, OtherEnd, BadBlock, Clash, NoCode, TooManyClasses, ReadFault, WriteFault, NoMemory}
+use Rattle.streamcode.specs.declared.end.End.TheVariants.{Thinned, Generated, Protected, Repaired, Bound, Designed, Accepted, Refused, CertificateRefused, LossRefused, Usage, Capture, MoreRecords, FewerRecords, FileRefused, FileTooLong, PacketTooWide, PacketTooLong, TooManyRecords, TooManySlots, TooManySymbols, WrongCode, BadShape, OtherWidth, OtherEnd, BadBlock, Clash, NoCode, TooManyClasses, Tried, ReadFault, WriteFault, NoMemory}
 
--- the status of a repaired capture, by the slots below the known end that are missed
-abbrev pub repaired_status : ℕ → ℕ
-repaired_status missed = if missed == 0 then 0 else 5
+-- the status by how many slots or packets are missed: of a repaired capture the slots below the known end, of a trial the packets
+abbrev pub missed_status : ℕ → ℕ
+missed_status missed = if missed == 0 then 0 else 5
 
 -- the status with which the program ends
 abbrev pub status_of : End → ℕ
 status_of (Thinned dropped) = 0
 status_of (Generated records) = 0
 status_of (Protected done) = 0
-status_of (Repaired totals) = repaired_status totals.missed
+status_of (Repaired totals) = missed_status totals.missed
+status_of (Tried trial) = missed_status trial.missed
 status_of (Bound kept period) = 0
 status_of (Designed candidate k n) = 0
 status_of Accepted = 0
@@ -106,6 +107,7 @@ text_of (Protected done) =
 text_of (Repaired totals) =
     codes "slots " ++ decimal totals.end ++ codes " missed " ++ decimal totals.missed ++ codes " strangers " ++ decimal totals.strangers
     ++ codes " repeats " ++ decimal totals.repeats
+text_of (Tried trial) = codes "trial done"
 text_of Accepted = codes "accepted"
 text_of Refused = codes "refused"
 text_of (Bound kept period) = codes "bound " ++ decimal kept ++ codes "/" ++ decimal period

@@ -22,12 +22,17 @@ use Rattle.sc_words.specs.declared.words.Kind.TheVariants.{Ms, Layered, Optimal}
 use Rattle.sc_rate.specs.Rate.{kept_count}
 use Rattle.sc_rate.specs.Residue.{bad_residue}
 use Rattle.sc_rate.specs.Standard.{standard_certificate}
+use Rattle.sc_trial.specs.declared.outcome.Trial.{Trial}
+use Rattle.sc_trial.specs.declared.outcome.TrialFault.{TrialFault}
+use Rattle.sc_trial.specs.declared.outcome.TrialFault.TheVariants as unmade
 use Rattle.sc_trial.specs.Generated.{generated}
+use Rattle.sc_trial.specs.Trial.{trial_of}
 use Rattle.streamcode.specs.declared.end.End.{End}
-use Rattle.streamcode.specs.declared.end.End.TheVariants.{Generated, Bound, Designed, Accepted, CertificateRefused, LossRefused, TooManyClasses, ReadFault, WriteFault, NoMemory}
+use Rattle.streamcode.specs.declared.end.End.TheVariants.{Generated, Bound, Designed, Accepted, CertificateRefused, LossRefused, PacketTooWide, TooManyClasses, Tried, ReadFault, WriteFault, NoMemory}
 use Rattle.streamcode.specs.End.{end_of_drop, end_of_protect, end_of_repair, end_of_design}
 use Rattle.streamcode.specs.Verdict.{verdict_end, verdict_text}
 use Rattle.streamcode.specs.Bound.{bound_line}
+use Rattle.streamcode.specs.Trial.{trial_line}
 
 -- an end that the words decide alone, or the words and the files: nothing is read and nothing given. It may have taken
 -- memory to decide.
@@ -100,6 +105,17 @@ design_by channel (Err fault) = refusal true (end_of_design fault)
 
 abbrev pub design_job : Kind → ChannelNumbers → Job End
 design_job kind channel = design_by channel (design_of (maker_of kind) channel)
+
+-- What a trial came to is given in a line; a protected packet that would be too wide is refused. That memory ran out is no function
+-- of the words and the files, so it is never due.
+abbrev pub trial_by : Result Trial TrialFault → Job End
+trial_by (Ok tried) = giving (Tried tried) (trial_line tried)
+trial_by (Err (unmade.TooWide bytes)) = refusal true (PacketTooWide bytes)
+trial_by (Err unmade.Memory) = refusal true NoMemory
+
+-- a code is tried on the generated capture and the generated loss of a seed
+abbrev pub trial_job : CodeFile → ℕ → ℕ → ℕ → Job End
+trial_job file seed count size = trial_by (trial_of file seed count size)
 
 -- a job that neither reads nor gives
 pub record IsSilent (job : Job End) : Type 0 where

@@ -1,6 +1,7 @@
 pub mod End
 pub mod Verdict
 pub mod Bound
+pub mod Trial
 pub mod Jobs
 pub mod Plans
 pub mod Files
@@ -10,4 +11,5 @@ pub mod CheckLaws
 pub mod CertifyLaws
 pub mod DesignLaws
 pub mod RepairLaws
+pub mod TrialLaws
 pub mod InTime

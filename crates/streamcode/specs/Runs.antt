@@ -9,10 +9,10 @@ use Rattle.sc_outside.specs.Sink.{SinkTold}
 use Rattle.streamcode.specs.declared.end.End.{End}
 use Rattle.streamcode.specs.declared.end.End.TheVariants.{Usage}
 use Rattle.streamcode.specs.End.{status_of, note_of, IsTold}
-use Rattle.streamcode.specs.Jobs.{refusal, lose_job, gen_job, protect_job, repair_job, check_job, bound_job, certify_job, design_job}
+use Rattle.streamcode.specs.Jobs.{refusal, lose_job, gen_job, protect_job, repair_job, check_job, bound_job, certify_job, design_job, trial_job}
 use Rattle.streamcode.specs.Plans.{Plan, owes, PlanEnds}
 use Rattle.streamcode.specs.Files.{code_plan, certificate_plan, loss_plan}
-use Rattle.sc_words.specs.Words.{Command, lose, generate, protect, check, repair, bound, certify, design, command_of}
+use Rattle.sc_words.specs.Words.{Command, lose, generate, protect, check, repair, bound, certify, design, trial, command_of}
 
 -- what is owed by a command
 abbrev pub command_plan : Option Command → Plan
@@ -25,6 +25,7 @@ command_plan (Some (repair code)) = code_plan code (λ file. owes (repair_job fi
 command_plan (Some (bound channel)) = owes (bound_job channel)
 command_plan (Some (certify code cert)) = code_plan code (λ file. certificate_plan cert (λ certificate. owes (certify_job file certificate)))
 command_plan (Some (design kind channel)) = owes (design_job kind channel)
+command_plan (Some (trial code seed count size)) = code_plan code (λ file. owes (trial_job file seed count size))
 
 -- the files that a command names, in the order of its words
 abbrev pub files_of : Option Command → List (List ℕ)
@@ -37,6 +38,7 @@ files_of (Some (repair code)) = code ∷ []
 files_of (Some (bound channel)) = []
 files_of (Some (certify code cert)) = code ∷ cert ∷ []
 files_of (Some (design kind channel)) = []
+files_of (Some (trial code seed count size)) = code ∷ []
 
 -- what is owed by these words
 abbrev pub plan_of : List (List ℕ) → Plan

@@ -7,6 +7,7 @@ use sc_optimal::DesignFault;
 use sc_repair::{MAX_SLOTS, RepairEnd, Repaired, Unfit};
 use sc_rtpdump::{DropFault, Dropped, DumpFault};
 use sc_slots::{ProtectFault, Protected};
+use sc_trial::Trial;
 
 /// What a file is for.
 #[derive(Clone, Copy, Debug, PartialEq, Eq)]
@@ -35,6 +36,8 @@ pub enum End {
     /// The code file of the candidate of this number was given, whose code has blocks of so many symbols, and so many symbols with
     /// those of a parity.
     Designed(u32, u32, u32),
+    /// A code was tried, but for packets that are missed.
+    Tried(Trial),
     /// The code meets its channel, or the channel accepts the certificate.
     Accepted,
     /// The code doesn't meet its channel.
@@ -91,7 +94,7 @@ pub enum End {
 
 impl End {
     /// The status with which the program ends: 0 done, 1 a code, a certificate or a loss was judged and refused, 2 no form of words, 3
-    /// refused by a file or the input, 4 beyond a limit, 5 slots are missed, 6 a slot contradicts those before it, 7 a read or a
+    /// refused by a file or the input, 4 beyond a limit, 5 slots or packets are missed, 6 a slot contradicts those before it, 7 a read or a
     /// fetch failed, 8 a write failed, 9 no memory, 10 no code, 11 too many classes.
     pub fn status(&self) -> u8
         ensures { result ≡ status_of self.now }
@@ -99,6 +102,7 @@ impl End {
         match self {
             End::Thinned(_) | End::Generated(_) | End::Protected(_) => 0,
             End::Repaired(totals) => if totals.missed == 0 { 0 } else { 5 },
+            End::Tried(tried) => if tried.missed == 0 { 0 } else { 5 },
             End::Bound(_, _) | End::Designed(_, _, _) | End::Accepted => 0,
             End::Refused | End::CertificateRefused(_) | End::LossRefused(_) => 1,
             End::Usage => 2,

@@ -18,6 +18,8 @@ mod repair;
 mod repair_laws;
 #[cfg(test)]
 mod tests;
+mod trial;
+mod trial_laws;
 mod verdict;
 
 pub use check_laws::{certify_is_bounding, check_is_meeting, design_is_first_good};
@@ -26,3 +28,4 @@ pub use lose_laws::lose_is_thinning;
 pub use note::conclude;
 pub use program::run;
 pub use repair_laws::repair_is_repairing;
+pub use trial_laws::trial_is_counting;

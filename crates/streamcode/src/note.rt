@@ -191,6 +191,7 @@ fn end_note(end: &End) -> Note
         End::CertificateRefused(residue) => {
             Note::of("certificate refused at residue ").number((*residue).into())
         }
+        End::Tried(_) => Note::of("trial done"),
         End::Accepted => Note::of("accepted"),
         End::Refused => Note::of("refused"),
         End::LossRefused(window) => Note::of("loss refused at window ").number(*window as u64),

@@ -17,6 +17,7 @@ use crate::lose::lose;
 use crate::note::conclude;
 use crate::protect::protect;
 use crate::repair::repair;
+use crate::trial::try_code;
 use sc_check::Gate;
 use sc_outside::{Cabinet, Port, Sink};
 use sc_words::{Command, read_words};
@@ -46,6 +47,12 @@ fn perform<R: Threads + Sync, C: Cabinet, P: Port, G: Gate + Sync>(
         Command::Certify { code, cert } => certify(alloc, code, cert, cabinet, port),
         Command::Design { kind, channel } => design(rt, alloc, kind, channel, port, gate),
         Command::Check { code, workers } => check(rt, alloc, code, workers, cabinet, port, gate),
+        Command::Trial {
+            code,
+            seed,
+            count,
+            size,
+        } => try_code(alloc, code, seed, count, size, cabinet, port),
     }
 }
 

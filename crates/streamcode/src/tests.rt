@@ -1,17 +1,22 @@
 //! Whole runs over objects in memory. What is wanted is written out by hand from the format.
+ghost use Rattle.std.specs.Prelude.{◌≤◌};
+
 mod checking;
 mod designing;
 mod losing;
 mod repairing;
+mod trying;
 
 use super::{End, Role, conclude, run};
-use sc_check::NoGate;
+use sc_check::{Gate, NoGate};
 use sc_codefile::{FileFault, Key};
 use sc_outside::{MemoryCabinet, MemoryPort, MemorySink};
 use sc_repair::Repaired;
 use sc_rtpdump::{Dropped, DumpFault};
 use sc_slots::Protected;
+use sc_trial::Trial;
 use std::alloc::{AllocError, Global};
+use std::process::Abort;
 use std::test::Fail;
 use std::thread::Threads;
 
@@ -90,8 +95,43 @@ struct Answer {
     moves: usize,
 }
 
-/// Runs the words of a line over an input in pieces of 7 bytes, with room for so many bytes, where call `fail` of the
-/// port fails.
+/// Runs the words of a line over a port, with files and a gate.
+fn answer_over<R: Threads + Sync, G: Gate + Sync>(
+    rt: &R,
+    alloc: Global,
+    line: &str,
+    cabinet: &mut MemoryCabinet,
+    mut port: MemoryPort,
+    gate: &G,
+) -> Result<Answer, Fail> {
+    let words = words_of(alloc, line)?;
+    let mut notes = MemorySink::new(alloc, 128, Vec::new(alloc))?;
+    let status = run(rt, alloc, &words, cabinet, &mut port, &mut notes, gate);
+    Ok(Answer {
+        status,
+        given: joined(alloc, &[port.given()])?,
+        note: joined(alloc, &[notes.given()])?,
+        moves: port.journal().len(),
+    })
+}
+
+/// The same over an input in pieces of 7 bytes, with room for so many bytes, where call `fail` of the port fails.
+fn answer_by<R: Threads + Sync>(
+    rt: &R,
+    alloc: Global,
+    line: &str,
+    cabinet: &mut MemoryCabinet,
+    input: &[&[u8]],
+    room: usize,
+    fail: u32,
+) -> Result<Answer, Fail> {
+    let input = joined(alloc, input)?;
+    let fails = vec![in alloc; fail]?;
+    let port = MemoryPort::new(alloc, input, room, 1000, 7, fails)?;
+    answer_over(rt, alloc, line, cabinet, port, &NoGate)
+}
+
+/// The same without files.
 fn answer_of<R: Threads + Sync>(
     rt: &R,
     alloc: Global,
@@ -104,28 +144,86 @@ fn answer_of<R: Threads + Sync>(
     answer_by(rt, alloc, line, &mut cabinet, input, room, fail)
 }
 
-/// The same, with files.
-fn answer_by<R: Threads + Sync>(
+/// The same in pieces of this length, with room for two million bytes.
+fn answer_in_pieces<R: Threads + Sync>(
     rt: &R,
     alloc: Global,
     line: &str,
     cabinet: &mut MemoryCabinet,
-    input: &[&[u8]],
-    room: usize,
+    input: &[u8],
+    piece: usize,
     fail: u32,
-) -> Result<Answer, Fail> {
-    let words = words_of(alloc, line)?;
-    let input = joined(alloc, input)?;
+) -> Result<Answer, Fail>
+    requires { 1 ≤ piece }
+{
+    let input = joined(alloc, &[input])?;
     let fails = vec![in alloc; fail]?;
-    let mut port = MemoryPort::new(alloc, input, room, 1000, 7, fails)?;
+    let port = MemoryPort::new(alloc, input, 2_000_000, 10_000, piece, fails)?;
+    answer_over(rt, alloc, line, cabinet, port, &NoGate)
+}
+
+/// A run ended with this status, gave these bytes, and told this note.
+fn assert_answer(
+    rt: &impl Abort,
+    line: &str,
+    answer: &Answer,
+    status: u8,
+    given: &[u8],
+    note: &str,
+) {
+    assert_eq!(rt; answer.status, status, "{line} {note}");
+    assert_eq!(rt; answer.given.as_slice(), given, "{line} {note}");
+    assert_eq!(rt; answer.note.as_slice(), note.as_bytes(), "{line}");
+}
+
+/// A run ended with this status and this note, and neither read nor gave anything.
+fn assert_untouched(rt: &impl Abort, line: &str, answer: &Answer, status: u8, note: &str) {
+    assert_answer(rt, line, answer, status, b"", note);
+    assert_eq!(rt; answer.moves, 0, "{line} {note}");
+}
+
+/// A run ended with this status and this note, and gave so many of the bytes that are due.
+fn assert_cut(
+    rt: &impl Abort,
+    answer: &Answer,
+    status: u8,
+    note: &str,
+    whole: &[u8],
+    given: usize,
+) {
+    assert_eq!(rt; answer.status, status, "{given} {note}");
+    assert_eq!(rt; answer.note.as_slice(), note.as_bytes(), "{given}");
+    assert!(rt;
+        whole.starts_with(answer.given.as_slice()),
+        "{given} {note}"
+    );
+    assert_eq!(rt; answer.given.len(), given, "{note}");
+}
+
+/// An end has this status and this note.
+fn assert_ends(
+    rt: &impl Abort,
+    alloc: Global,
+    end: End,
+    status: u8,
+    note: &str,
+) -> Result<(), Fail> {
     let mut notes = MemorySink::new(alloc, 128, Vec::new(alloc))?;
-    let status = run(rt, alloc, &words, cabinet, &mut port, &mut notes, &NoGate);
-    Ok(Answer {
-        status,
-        given: joined(alloc, &[port.given()])?,
-        note: joined(alloc, &[notes.given()])?,
-        moves: port.journal().len(),
-    })
+    assert_eq!(rt; conclude(&mut notes, end), status, "{note}");
+    assert_eq!(rt; notes.given(), note.as_bytes());
+    // A sink with less room gets the beginning, and the status stays.
+    let mut short = MemorySink::new(alloc, 3, Vec::new(alloc))?;
+    assert_eq!(rt; conclude(&mut short, end), status, "{note}");
+    assert!(rt;
+        note.as_bytes().starts_with(short.given()) && short.given().len() == 3,
+        "{note}"
+    );
+    // The fault of a capture prints its note.
+    if let End::Capture(fault) = end {
+        let printed = format!(in alloc; "{fault}\n")?;
+        assert_eq!(rt; printed.as_str(), note);
+    }
+    Ok(())
 }
 
 // Each end with its status and its note, as the program's page has them.
@@ -153,8 +251,17 @@ fn every_end_has_its_note(rt: HostRuntime) -> Result<(), Fail> {
         cut: 0,
         strange: 17,
     };
+    let tried = Trial {
+        slots: 10_040,
+        lost: 4_294_967_295,
+        equal: 10_000,
+        missed: 0,
+    };
+    let open = Trial { missed: 1, ..tried };
     for (end, status, note) in [
         (End::Thinned(done), 0, "records 4000000 lost 0\n"),
+        (End::Tried(tried), 0, "trial done\n"),
+        (End::Tried(open), 5, "trial done\n"),
         (
             End::Protected(protected),
             0,
@@ -242,18 +349,7 @@ fn every_end_has_its_note(rt: HostRuntime) -> Result<(), Fail> {
         (End::WriteFault, 8, "write fault\n"),
         (End::NoMemory, 9, "no memory\n"),
     ] {
-        let mut notes = MemorySink::new(rt.alloc(), 128, Vec::new(rt.alloc()))?;
-        assert_eq!(rt; conclude(&mut notes, end), status);
-        assert_eq!(rt; notes.given(), note.as_bytes());
-        // A sink with less room gets the beginning, and the status stays.
-        let mut short = MemorySink::new(rt.alloc(), 3, Vec::new(rt.alloc()))?;
-        assert_eq!(rt; conclude(&mut short, end), status);
-        assert!(rt; note.as_bytes().starts_with(short.given()) && short.given().len() == 3);
-        // The fault of a capture prints its note.
-        if let End::Capture(fault) = end {
-            let printed = format!(in rt.alloc(); "{fault}\n")?;
-            assert_eq!(rt; printed.as_str(), note);
-        }
+        assert_ends(&rt, rt.alloc(), end, status, note)?;
     }
     Ok(())
 }
@@ -298,9 +394,7 @@ fn gen_generates_and_refuses(rt: HostRuntime) -> Result<(), Fail> {
     ] {
         let answer = answer_of(&rt, rt.alloc(), line, input, 1000, 1000)?;
         let given = joined(rt.alloc(), given)?;
-        assert_eq!(rt; answer.status, status, "{line}");
-        assert_eq!(rt; answer.given.as_slice(), given.as_slice(), "{line}");
-        assert_eq!(rt; answer.note.as_slice(), note.as_bytes(), "{line}");
+        assert_answer(&rt, line, &answer, status, &given, note);
     }
     Ok(())
 }
@@ -318,10 +412,7 @@ fn gen_stops_at_a_failed_write(rt: HostRuntime) -> Result<(), Fail> {
         (0, 1000, 0),
     ] {
         let answer = answer_of(&rt, rt.alloc(), "gen 42 1 16", nothing, room, fail)?;
-        assert_eq!(rt; answer.status, 8, "{room} {fail}");
-        assert_eq!(rt; answer.note.as_slice(), b"write fault\n".as_slice());
-        assert!(rt; whole.as_slice().starts_with(answer.given.as_slice()));
-        assert_eq!(rt; answer.given.len(), given, "{room} {fail}");
+        assert_cut(&rt, &answer, 8, "write fault\n", &whole, given);
     }
     Ok(())
 }
@@ -331,31 +422,19 @@ fn gen_stops_at_a_failed_write(rt: HostRuntime) -> Result<(), Fail> {
 fn generates_many_records(rt: HostRuntime) -> Result<(), Fail> {
     let last: &[u8] =
         b"\x00\x14\x00\x0c\x00\x13\xff\xec\x80\x00\xff\xff\x00\x9f\xff\x60\x12\x34\x56\x78\x00\x14\x00\x0c\x00\x14\x00\x00\x80\x00\x00\x00\x00\xa0\x00\x00\x12\x34\x56\x78\x00\x14\x00\x0c\x00\x14\x00\x14\x80\x00\x00\x01\x00\xa0\x00\xa0\x12\x34\x56\x78";
-    let words = words_of(rt.alloc(), "gen 1 65538 12")?;
     for (fail, status, given, note) in [
         (1000, 0, 1_310_804, "records 65538\n"),
         // Three pieces are the first block, of 44 bytes and 9,828 records.
         (4, 8, 196_604 + 65_536, "write fault\n"),
     ] {
-        let fails = vec![in rt.alloc(); fail]?;
-        let input = Vec::new(rt.alloc());
-        let mut port = MemoryPort::new(rt.alloc(), input, 2_000_000, 1000, 65_536, fails)?;
-        let mut notes = MemorySink::new(rt.alloc(), 128, Vec::new(rt.alloc()))?;
         let mut cabinet = no_files(rt.alloc());
-        let answer = run(
-            &rt,
-            rt.alloc(),
-            &words,
-            &mut cabinet,
-            &mut port,
-            &mut notes,
-            &NoGate,
-        );
-        assert_eq!(rt; answer, status);
-        assert_eq!(rt; port.given().len(), given);
-        assert!(rt; port.given().starts_with(PREAMBLE));
-        assert_eq!(rt; port.given().ends_with(last), status == 0);
-        assert_eq!(rt; notes.given(), note.as_bytes());
+        let line = "gen 1 65538 12";
+        let answer = answer_in_pieces(&rt, rt.alloc(), line, &mut cabinet, b"", 65_536, fail)?;
+        assert_eq!(rt; answer.status, status);
+        assert_eq!(rt; answer.given.len(), given);
+        assert!(rt; answer.given.as_slice().starts_with(PREAMBLE));
+        assert_eq!(rt; answer.given.as_slice().ends_with(last), status == 0);
+        assert_eq!(rt; answer.note.as_slice(), note.as_bytes());
     }
     Ok(())
 }
@@ -420,21 +499,22 @@ fn protect_protects_and_refuses(rt: HostRuntime) -> Result<(), Fail> {
         (bare, 3, nothing, "preamble\n"),
     ] {
         let mut cabinet = one_file(rt.alloc(), "code.json", CODE)?;
-        let answer = answer_by(
-            &rt,
-            rt.alloc(),
-            "protect code.json 12",
-            &mut cabinet,
-            input,
-            1000,
-            1000,
-        )?;
+        let line = "protect code.json 12";
+        let answer = answer_by(&rt, rt.alloc(), line, &mut cabinet, input, 1000, 1000)?;
         let given = joined(rt.alloc(), given)?;
-        assert_eq!(rt; answer.status, status, "{note}");
-        assert_eq!(rt; answer.given.as_slice(), given.as_slice(), "{note}");
-        assert_eq!(rt; answer.note.as_slice(), note.as_bytes());
+        assert_answer(&rt, line, &answer, status, &given, note);
     }
     Ok(())
+}
+
+/// A code file whose code has 63 symbols of parity.
+fn wide_code(alloc: Global) -> Result<Vec<u8>, AllocError> {
+    let mut text = joined(alloc, &[b"{\"channel\":[2,1,1,1],\"k\":1,\"lags\":[[[0"])?;
+    for _ in 1..63 {
+        text.extend_from_slice(b",0")?;
+    }
+    text.extend_from_slice(b"]]],\"r\":63}")?;
+    Ok(text)
 }
 
 // What the words and the file decide: nothing is read or given.
@@ -442,14 +522,7 @@ fn protect_protects_and_refuses(rt: HostRuntime) -> Result<(), Fail> {
 fn protect_judges_its_file(rt: HostRuntime) -> Result<(), Fail> {
     let input: &[&[u8]] = &[PREAMBLE, PACKET];
     let long = vec![in rt.alloc(); b' '; 4_194_305]?;
-    let mut wide = joined(
-        rt.alloc(),
-        &[b"{\"channel\":[2,1,1,1],\"k\":1,\"lags\":[[[0"],
-    )?;
-    for _ in 1..63 {
-        wide.extend_from_slice(b",0")?;
-    }
-    wide.extend_from_slice(b"]]],\"r\":63}")?;
+    let wide = wide_code(rt.alloc())?;
     for (line, text, status, note) in [
         ("protect code.json 1473", CODE, 2, "usage\n"),
         ("protect code.json 11", CODE, 2, "usage\n"),
@@ -468,10 +541,7 @@ fn protect_judges_its_file(rt: HostRuntime) -> Result<(), Fail> {
     ] {
         let mut cabinet = one_file(rt.alloc(), "code.json", text)?;
         let answer = answer_by(&rt, rt.alloc(), line, &mut cabinet, input, 1000, 1000)?;
-        assert_eq!(rt; answer.status, status, "{line} {note}");
-        assert_eq!(rt; answer.note.as_slice(), note.as_bytes());
-        assert_eq!(rt; answer.moves, 0, "{line} {note}");
-        assert!(rt; answer.given.is_empty(), "{line} {note}");
+        assert_untouched(&rt, line, &answer, status, note);
     }
     Ok(())
 }
@@ -486,42 +556,24 @@ fn faults_of_protect_are_told(rt: HostRuntime) -> Result<(), Fail> {
         ],
     )?;
     // 27 calls copy the preamble, 4 read the packet, and one finds the end; the slots are written last.
-    for (room, fail, status, given) in [
-        (1000, 0, 7, 0),
-        (1000, 20, 8, 0),
-        (1000, 26, 8, 42),
-        (1000, 27, 7, 44),
-        (1000, 30, 7, 44),
-        (44 + 100, 1000, 8, 144),
-        (0, 1000, 8, 0),
+    let line = "protect c 12";
+    for (room, fail, status, note, given) in [
+        (1000, 0, 7, "read fault\n", 0),
+        (1000, 20, 8, "write fault\n", 0),
+        (1000, 26, 8, "write fault\n", 42),
+        (1000, 27, 7, "read fault\n", 44),
+        (1000, 30, 7, "read fault\n", 44),
+        (44 + 100, 1000, 8, "write fault\n", 144),
+        (0, 1000, 8, "write fault\n", 0),
     ] {
         let mut cabinet = one_file(rt.alloc(), "c", CODE)?;
-        let answer = answer_by(
-            &rt,
-            rt.alloc(),
-            "protect c 12",
-            &mut cabinet,
-            input,
-            room,
-            fail,
-        )?;
-        assert_eq!(rt; answer.status, status, "{room} {fail}");
-        assert!(rt; whole.as_slice().starts_with(answer.given.as_slice()));
-        assert_eq!(rt; answer.given.len(), given, "{room} {fail}");
+        let answer = answer_by(&rt, rt.alloc(), line, &mut cabinet, input, room, fail)?;
+        assert_cut(&rt, &answer, status, note, &whole, given);
     }
-    let fails = Vec::from_slice(rt.alloc(), &[0])?;
+    let fails = vec![in rt.alloc(); 0]?;
     let mut failing = MemoryCabinet::new(Vec::new(rt.alloc()), fails);
-    let answer = answer_by(
-        &rt,
-        rt.alloc(),
-        "protect c 12",
-        &mut failing,
-        input,
-        1000,
-        1000,
-    )?;
-    assert_eq!(rt; answer.status, 7);
-    assert_eq!(rt; answer.moves, 0);
+    let answer = answer_by(&rt, rt.alloc(), line, &mut failing, input, 1000, 1000)?;
+    assert_untouched(&rt, line, &answer, 7, "read fault\n");
     Ok(())
 }
 
@@ -536,54 +588,26 @@ fn part(bytes: &[u8], from: usize, end: usize) -> &[u8] {
 // Each packet comes in a slot, and its frame again two slots later.
 #[test]
 fn protects_what_it_generates(rt: HostRuntime) -> Result<(), Fail> {
-    let words = words_of(rt.alloc(), "gen 5 3000 30")?;
-    let mut cabinet = one_file(rt.alloc(), "c", CODE)?;
-    let mut notes = MemorySink::new(rt.alloc(), 128, Vec::new(rt.alloc()))?;
-    let none = Vec::new(rt.alloc());
-    let mut made = MemoryPort::new(
-        rt.alloc(),
-        Vec::new(rt.alloc()),
-        200_000,
-        1000,
-        65_536,
-        none,
-    )?;
-    assert_eq!(rt;
-        run(
-            &rt,
-            rt.alloc(),
-            &words,
-            &mut cabinet,
-            &mut made,
-            &mut notes,
-            &NoGate
-        ),
-        0
-    );
-    let words = words_of(rt.alloc(), "protect c 30")?;
-    let input = joined(rt.alloc(), &[made.given()])?;
-    let none = Vec::new(rt.alloc());
-    let mut port = MemoryPort::new(rt.alloc(), input, 400_000, 10_000, 65_536, none)?;
-    assert_eq!(rt;
-        run(
-            &rt,
-            rt.alloc(),
-            &words,
-            &mut cabinet,
-            &mut port,
-            &mut notes,
-            &NoGate
-        ),
-        0
-    );
-    let given = port.given();
-    assert_eq!(rt; given.len(), 44 + 3002 * 104);
+    let alloc = rt.alloc();
+    let mut cabinet = one_file(alloc, "c", CODE)?;
+    let line = "gen 5 3000 30";
+    let made = answer_in_pieces(&rt, alloc, line, &mut cabinet, b"", 65_536, 10_000)?;
+    assert_eq!(rt; made.status, 0);
+    let line = "protect c 30";
+    let sent = answer_in_pieces(&rt, alloc, line, &mut cabinet, &made.given, 65_536, 10_000)?;
+    assert_eq!(rt; sent.status, 0);
+    assert_slots(&rt, &made.given, &sent.given);
+    Ok(())
+}
+
+/// Of 3000 packets of 30 bytes each stands in its slot, and two slots later again.
+fn assert_slots(rt: &impl Abort, made: &[u8], sent: &[u8]) {
+    assert_eq!(rt; sent.len(), 44 + 3002 * 104);
     for slot in 0..3000 {
         let at = 44 + 104 * slot;
-        let record = part(made.given(), 46 + 38 * slot, 82 + 38 * slot);
+        let record = part(made, 46 + 38 * slot, 82 + 38 * slot);
         assert_eq!(rt; record.len(), 36, "{slot}");
-        assert!(rt; part(given, at + 32, at + 68) == record, "{slot}");
-        assert!(rt; part(given, at + 276, at + 312) == record, "{slot}");
+        assert!(rt; part(sent, at + 32, at + 68) == record, "{slot}");
+        assert!(rt; part(sent, at + 276, at + 312) == record, "{slot}");
     }
-    Ok(())
 }

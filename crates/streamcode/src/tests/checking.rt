@@ -1,8 +1,8 @@
 //! Whole runs of `check`. What is wanted is written out by hand from the definitions.
-use super::{answer_by, one_file, two_files, words_of};
-use crate::{certify_is_bounding, check_is_meeting, run};
+use super::{answer_by, answer_over, assert_answer, assert_cut, one_file, two_files};
+use crate::{certify_is_bounding, check_is_meeting};
 use sc_check::Gate;
-use sc_outside::{MemoryPort, MemorySink};
+use sc_outside::MemoryPort;
 use std::sync::atomic::{AtomicU64, Ordering};
 use std::test::Fail;
 
@@ -80,9 +80,7 @@ fn check_judges_codes(rt: HostRuntime) -> Result<(), Fail> {
     ] {
         let mut cabinet = one_file(rt.alloc(), "c", text)?;
         let answer = answer_by(&rt, rt.alloc(), line, &mut cabinet, &[], 1000, 1000)?;
-        assert_eq!(rt; answer.status, status, "{line} {note}");
-        assert_eq!(rt; answer.given.as_slice(), given.as_bytes(), "{line} {note}");
-        assert_eq!(rt; answer.note.as_slice(), note.as_bytes(), "{line}");
+        assert_answer(&rt, line, &answer, status, given.as_bytes(), note);
     }
     Ok(())
 }
@@ -90,20 +88,15 @@ fn check_judges_codes(rt: HostRuntime) -> Result<(), Fail> {
 #[test]
 fn check_stops_at_a_failed_write(rt: HostRuntime) -> Result<(), Fail> {
     let line = "meets 3 2 1 2 rate 1/2 classes 2\n";
-    for (room, fail, status, given) in [
-        (1000, 0, 8, 0),
-        (1000, 2, 8, 14),
-        (20, 1000, 8, 20),
-        (33, 1000, 0, 33),
+    for (room, fail, status, note, given) in [
+        (1000, 0, 8, "write fault\n", 0),
+        (1000, 2, 8, "write fault\n", 14),
+        (20, 1000, 8, "write fault\n", 20),
+        (33, 1000, 0, "accepted\n", 33),
     ] {
         let mut cabinet = one_file(rt.alloc(), "c", REPEAT)?;
         let answer = answer_by(&rt, rt.alloc(), "check c 1", &mut cabinet, &[], room, fail)?;
-        assert_eq!(rt; answer.status, status, "{room} {fail}");
-        assert_eq!(rt;
-            answer.given.as_slice(),
-            &line.as_bytes()[..given],
-            "{room} {fail}"
-        );
+        assert_cut(&rt, &answer, status, note, line.as_bytes(), given);
     }
     Ok(())
 }
@@ -176,9 +169,7 @@ fn certify_judges_certificates(rt: HostRuntime) -> Result<(), Fail> {
     ] {
         let mut cabinet = two_files(rt.alloc(), REPEAT, cert)?;
         let answer = answer_by(&rt, rt.alloc(), line, &mut cabinet, &[], 1000, 1000)?;
-        assert_eq!(rt; answer.status, status, "{line} {note}");
-        assert_eq!(rt; answer.given.as_slice(), given.as_bytes(), "{line} {note}");
-        assert_eq!(rt; answer.note.as_slice(), note.as_bytes(), "{line}");
+        assert_answer(&rt, line, &answer, status, given.as_bytes(), note);
     }
     check_is_meeting();
     certify_is_bounding();
@@ -221,24 +212,12 @@ fn workers_of_a_run_meet(rt: HostRuntime) -> Result<(), Fail> {
         alone: AtomicU64::new(0),
     };
     let alloc = rt.alloc();
-    let words = words_of(alloc, "check c 2")?;
     let mut cabinet = one_file(alloc, "c", PAIR)?;
-    let mut port = MemoryPort::new(alloc, Vec::new(alloc), 100, 100, 7, Vec::new(alloc))?;
-    let mut notes = MemorySink::new(alloc, 128, Vec::new(alloc))?;
-    let status = run(
-        &rt,
-        alloc,
-        &words,
-        &mut cabinet,
-        &mut port,
-        &mut notes,
-        &gate,
-    );
-    assert_eq!(rt; status, 0);
-    assert_eq!(rt;
-        port.given(),
-        b"meets 4 3 2 3 rate 2/5 classes 4\n".as_slice()
-    );
+    let port = MemoryPort::new(alloc, Vec::new(alloc), 100, 100, 7, Vec::new(alloc))?;
+    let line = "check c 2";
+    let answer = answer_over(&rt, alloc, line, &mut cabinet, port, &gate)?;
+    let given = b"meets 4 3 2 3 rate 2/5 classes 4\n";
+    assert_answer(&rt, line, &answer, 0, given, "accepted\n");
     assert_eq!(rt; gate.first.load(Ordering::SeqCst), 1);
     assert_eq!(rt; gate.second.load(Ordering::SeqCst), 1);
     assert_eq!(rt; gate.alone.load(Ordering::SeqCst), 0);

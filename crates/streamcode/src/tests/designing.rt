@@ -1,5 +1,5 @@
 //! Whole runs of `design`. The codes were worked out by hand from the draws, or are told apart by their beginning and end.
-use super::{Answer, answer_of};
+use super::{Answer, answer_of, assert_answer, assert_untouched};
 use crate::design_is_first_good;
 use std::alloc::Global;
 use std::test::Fail;
@@ -37,9 +37,7 @@ fn design_gives_the_code_file(rt: HostRuntime) -> Result<(), Fail> {
         ),
     ] {
         let answer = designed(&rt, rt.alloc(), line)?;
-        assert_eq!(rt; answer.status, 0, "{line}");
-        assert_eq!(rt; answer.given.as_slice(), given.as_bytes(), "{line}");
-        assert_eq!(rt; answer.note.as_slice(), note.as_bytes(), "{line}");
+        assert_answer(&rt, line, &answer, 0, given.as_bytes(), note);
     }
     design_is_first_good();
     Ok(())
@@ -88,10 +86,7 @@ fn design_refuses(rt: HostRuntime) -> Result<(), Fail> {
         ("design code 3 2 1 2", 2, "usage\n"),
     ] {
         let answer = designed(&rt, rt.alloc(), line)?;
-        assert_eq!(rt; answer.status, status, "{line}");
-        assert_eq!(rt; answer.note.as_slice(), note.as_bytes(), "{line}");
-        assert_eq!(rt; answer.moves, 0, "{line}");
-        assert!(rt; answer.given.is_empty(), "{line}");
+        assert_untouched(&rt, line, &answer, status, note);
     }
     Ok(())
 }

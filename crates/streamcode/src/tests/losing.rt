@@ -1,10 +1,9 @@
 //! Whole runs of `lose`. What is wanted is written out by hand from the format.
 use super::{
-    Answer, CODE, HEAD, PREAMBLE, SHORT, answer_by, failing_files, joined, two_files, words_of,
+    Answer, CODE, HEAD, PREAMBLE, SHORT, answer_by, answer_in_pieces, assert_answer, assert_cut,
+    assert_untouched, failing_files, joined, two_files,
 };
-use crate::{lose_is_thinning, run};
-use sc_check::NoGate;
-use sc_outside::{MemoryPort, MemorySink};
+use crate::lose_is_thinning;
 use std::alloc::Global;
 use std::test::Fail;
 use std::thread::Threads;
@@ -53,9 +52,7 @@ fn lose_thins_and_refuses(rt: HostRuntime) -> Result<(), Fail> {
     ] {
         let answer = lose_by(&rt, rt.alloc(), loss, input, 1000, 1000)?;
         let given = joined(rt.alloc(), given)?;
-        assert_eq!(rt; answer.status, status, "{note}");
-        assert_eq!(rt; answer.given.as_slice(), given.as_slice(), "{note}");
-        assert_eq!(rt; answer.note.as_slice(), note.as_bytes());
+        assert_answer(&rt, "lose", &answer, status, &given, note);
     }
     lose_is_thinning();
     Ok(())
@@ -95,10 +92,7 @@ fn lose_judges_its_files(rt: HostRuntime) -> Result<(), Fail> {
     ] {
         let mut cabinet = two_files(rt.alloc(), code, loss)?;
         let answer = answer_by(&rt, rt.alloc(), line, &mut cabinet, input, 1000, 1000)?;
-        assert_eq!(rt; answer.status, status, "{line} {note}");
-        assert_eq!(rt; answer.note.as_slice(), note.as_bytes(), "{line}");
-        assert_eq!(rt; answer.moves, 0, "{line} {note}");
-        assert!(rt; answer.given.is_empty(), "{line} {note}");
+        assert_untouched(&rt, line, &answer, status, note);
     }
     Ok(())
 }
@@ -174,24 +168,9 @@ fn thins_three_thousand_records(rt: HostRuntime) -> Result<(), Fail> {
     loss.extend_from_slice(b"\"}")?;
     let code = b"{\"channel\":[40,10,4,20],\"k\":1,\"lags\":[[[0]]],\"r\":1}";
     let mut cabinet = two_files(rt.alloc(), code, &loss)?;
-    let words = words_of(rt.alloc(), "lose c d")?;
-    let fails = Vec::new(rt.alloc());
-    let mut port = MemoryPort::new(rt.alloc(), input, 100_000, 10_000, 65_536, fails)?;
-    let mut notes = MemorySink::new(rt.alloc(), 128, Vec::new(rt.alloc()))?;
-    assert_eq!(rt;
-        run(
-            &rt,
-            rt.alloc(),
-            &words,
-            &mut cabinet,
-            &mut port,
-            &mut notes,
-            &NoGate
-        ),
-        0
-    );
-    assert!(rt; port.given() == kept.as_slice());
-    assert_eq!(rt; notes.given(), b"records 3000 lost 300\n".as_slice());
+    let line = "lose c d";
+    let answer = answer_in_pieces(&rt, rt.alloc(), line, &mut cabinet, &input, 65_536, 10_000)?;
+    assert_answer(&rt, line, &answer, 0, &kept, "records 3000 lost 300\n");
     Ok(())
 }
 
@@ -214,10 +193,7 @@ fn faults_of_the_port_are_told(rt: HostRuntime) -> Result<(), Fail> {
         (50, 1000, 8, "write fault\n", 50),
     ] {
         let answer = lose_by(&rt, rt.alloc(), loss, all, room, fail)?;
-        assert_eq!(rt; answer.status, status, "{room} {fail}");
-        assert_eq!(rt; answer.note.as_slice(), note.as_bytes());
-        assert!(rt; whole.as_slice().starts_with(answer.given.as_slice()));
-        assert_eq!(rt; answer.given.len(), given, "{room} {fail}");
+        assert_cut(&rt, &answer, status, note, &whole, given);
     }
     Ok(())
 }

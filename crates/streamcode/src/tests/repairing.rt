@@ -1,11 +1,11 @@
 //! Whole runs of `repair`. What is wanted is written out by hand from the format.
 use super::{
     Answer, CODE, EMPTY_0, EMPTY_1, FRAME, OTHERS, PACKET, PREAMBLE, SLOT_0, SLOT_1, SLOT_2, ZEROS,
-    answer_by, joined, one_file, two_files, words_of,
+    answer_by, answer_in_pieces, assert_answer, assert_cut, assert_untouched, joined, one_file,
+    two_files,
 };
-use crate::{End, conclude, repair_is_repairing, run};
-use sc_check::NoGate;
-use sc_outside::{MemoryCabinet, MemoryPort, MemorySink};
+use crate::{End, conclude, repair_is_repairing};
+use sc_outside::{MemoryCabinet, MemorySink};
 use sc_repair::{EndState, RepairEnd, Unfit};
 use sc_rtpdump::DumpFault;
 use std::alloc::{AllocError, Global};
@@ -152,9 +152,7 @@ fn repairs_what_came(rt: HostRuntime) -> Result<(), Fail> {
         let input = slots(rt.alloc(), came)?;
         let given = packets(rt.alloc(), ids)?;
         let answer = repair_of(&rt, rt.alloc(), &[&input], 1000, 1000)?;
-        assert_eq!(rt; answer.status, status, "{note}");
-        assert_eq!(rt; answer.given.as_slice(), given.as_slice(), "{note}");
-        assert_eq!(rt; answer.note.as_slice(), note.as_bytes());
+        assert_answer(&rt, "repair", &answer, status, &given, note);
     }
     repair_is_repairing();
     Ok(())
@@ -214,9 +212,7 @@ fn repairs_and_refuses_records(rt: HostRuntime) -> Result<(), Fail> {
     ] {
         let given = joined(rt.alloc(), given)?;
         let answer = repair_of(&rt, rt.alloc(), input, 1000, 1000)?;
-        assert_eq!(rt; answer.status, status, "{note}");
-        assert_eq!(rt; answer.given.as_slice(), given.as_slice(), "{note}");
-        assert_eq!(rt; answer.note.as_slice(), note.as_bytes());
+        assert_answer(&rt, "repair", &answer, status, &given, note);
     }
     Ok(())
 }
@@ -250,9 +246,7 @@ fn repair_refuses_changed_bytes(rt: HostRuntime) -> Result<(), Fail> {
         }
         let given = packets(rt.alloc(), ids)?;
         let answer = repair_of(&rt, rt.alloc(), &[&input], 1000, 1000)?;
-        assert_eq!(rt; answer.status, status, "{place} {note}");
-        assert_eq!(rt; answer.given.as_slice(), given.as_slice(), "{place}");
-        assert_eq!(rt; answer.note.as_slice(), note.as_bytes(), "{place}");
+        assert_answer(&rt, "repair", &answer, status, &given, note);
     }
     Ok(())
 }
@@ -272,10 +266,7 @@ fn repair_judges_its_file(rt: HostRuntime) -> Result<(), Fail> {
     ] {
         let mut cabinet = one_file(rt.alloc(), "c", text)?;
         let answer = answer_by(&rt, rt.alloc(), line, &mut cabinet, input, 1000, 1000)?;
-        assert_eq!(rt; answer.status, status, "{line} {note}");
-        assert_eq!(rt; answer.note.as_slice(), note.as_bytes());
-        assert_eq!(rt; answer.moves, 0, "{line} {note}");
-        assert!(rt; answer.given.is_empty(), "{line} {note}");
+        assert_untouched(&rt, line, &answer, status, note);
     }
     Ok(())
 }
@@ -301,10 +292,7 @@ fn faults_of_repair_are_told(rt: HostRuntime) -> Result<(), Fail> {
         (0, 1000, 8, "write fault\n", 0),
     ] {
         let answer = repair_of(&rt, rt.alloc(), &[&input], room, fail)?;
-        assert_eq!(rt; answer.status, status, "{room} {fail}");
-        assert_eq!(rt; answer.note.as_slice(), note.as_bytes(), "{room} {fail}");
-        assert!(rt; whole.as_slice().starts_with(answer.given.as_slice()));
-        assert_eq!(rt; answer.given.len(), given, "{room} {fail}");
+        assert_cut(&rt, &answer, status, note, &whole, given);
     }
     Ok(())
 }
@@ -356,7 +344,7 @@ fn every_fault_of_repair_has_its_note(rt: HostRuntime) -> Result<(), Fail> {
     Ok(())
 }
 
-/// Runs the words of a line over an input, and answers its status and what it gave.
+/// Runs the words of a line over an input in large pieces.
 fn given_by<R: Threads + Sync>(
     rt: &R,
     alloc: Global,
@@ -364,18 +352,7 @@ fn given_by<R: Threads + Sync>(
     cabinet: &mut MemoryCabinet,
     input: &[u8],
 ) -> Result<Answer, Fail> {
-    let words = words_of(alloc, line)?;
-    let input = joined(alloc, &[input])?;
-    let none = Vec::new(alloc);
-    let mut port = MemoryPort::new(alloc, input, 100_000, 10_000, 4096, none)?;
-    let mut notes = MemorySink::new(alloc, 128, Vec::new(alloc))?;
-    let status = run(rt, alloc, &words, cabinet, &mut port, &mut notes, &NoGate);
-    Ok(Answer {
-        status,
-        given: joined(alloc, &[port.given()])?,
-        note: joined(alloc, &[notes.given()])?,
-        moves: port.journal().len(),
-    })
+    answer_in_pieces(rt, alloc, line, cabinet, input, 4096, 10_000)
 }
 
 /// A loss of 202 flags, two of every four set.
