@@ -3,6 +3,7 @@ pub mod RecordSteps
 pub mod EndSteps
 pub mod PromptSteps
 pub mod EquationSteps
+pub mod WindowSteps
 pub mod ColumnSteps
 pub mod StandsSteps
 pub mod CallSteps
