@@ -12,7 +12,7 @@ use sc_code::ByteCode;
 use sc_field::{Field, Gf256};
 
 // Makes all coefficients zero.
-fn clear_row(row: &mut [Gf256])
+pub(crate) fn clear_row(row: &mut [Gf256])
     ensures { row.new ≡ replicate (length row.old) 0 }
 {
     for c in 0..row.len() {

@@ -1,0 +1,284 @@
+-- The terms of a parity symbol as its row, and what the row says where some columns are whole.
+use Rattle.std.proofs.Common.{◌≡◌, ◌≢◌, ◌⊎◌, ◌↔◌, ℕ, zero as nought, suc, ◌+◌, ◌-◌, ◌*◌, ◌<◌, ◌≤◌, Bool, true, false, cond, leb, List, [], ◌∷◌, ◌++◌, length, get_or, map, set, take, drop, replicate, flat_map, All, bit_xor, refl, sym, ap, ap₂, ◌∙◌, subst, arith, length-set, add-mul, inl, inr}
+use Rattle.std.specs.List.{range_with_len}
+use Rattle.std.specs.Int.Bits.{xor_self, xor_zero_r}
+use Rattle.std.proofs.lemmas.Bool.{cases_lt, cases_eq, cond-true, cond-false}
+use Rattle.std.proofs.lemmas.List.{length-replicate, length-append, length-take-le, length-drop, get_or-replicate, get_or-take, get_or-drop, get_or_past, get_or_default, get_or_append_left, get_or-append_right, get_or-set_same, get_or-set_other, take-append-drop, take-take, drop-drop, drop-take, take_more, take_all, ext_get_or}
+use Rattle.std.proofs.lemmas.List.Elements.{All-append, All-cons, All-nil, All-replicate, All-from_get_or, All-get_or, All-take, All-drop}
+use Rattle.std.proofs.lemmas.List.FromFn.{length-map-range_with_len, get_or-map-range_with_len}
+use Rattle.std.proofs.lemmas.List.Sums.{fold_push}
+use Rattle.sc_field.specs.Gf256.{gf256_product}
+use Rattle.sc_field.specs.Laws.Gf256Laws.{gf256_field, gf256_action}
+use Rattle.sc_field.specs.Scale.{scaled_sum}
+use Rattle.sc_field.specs.Terms.{combined}
+use Rattle.sc_matrix.specs.Module.{IsByte, IsModule}
+use Rattle.sc_matrix.specs.Vector.{IsVector, add_vectors, combination}
+use Rattle.sc_matrix.specs.Layout.{cut}
+use Rattle.sc_matrix.proofs.LayoutLaws.{vectors-cut, length-cut, get_or-cut, row_within}
+use Rattle.sc_matrix.proofs.VectorLaws.{vector_of, length-add_vectors, get_or-add_vectors}
+use Rattle.sc_matrix.proofs.ModuleLaws.{dot-append, none_plus}
+use Rattle.sc_matrix.proofs.ByteSteps.{scaled_sum_is}
+use Rattle.sc_code.specs.Code.{Code, coefficient}
+use Rattle.sc_code.proofs.ParityLaws.{coefficient-past}
+use Rattle.sc_slots.specs.Rows.{row_of, parity_row}
+use Rattle.sc_echelon.specs.Knowledge.{Knowledge, IsSolution, IsBytes, zero_bytes, xor_bytes, act_bytes}
+use Rattle.sc_echelon.proofs.Bytes.{bytes_module}
+use Rattle.sc_echelon.proofs.DotLaws.{dot_value, dot_none, dot_same, dot-add}
+use Rattle.sc_repair.specs.Equations.{Gives, Learns, Refuses}
+use Rattle.sc_repair.specs.Columns.{HasStored, IsColumns, all_known}
+use Rattle.sc_repair.specs.Sum.{placed, open_at, AreColumns, AreTerms, IsOpening}
+use Rattle.sc_repair.proofs.ColumnSteps.{all_known-iff, xor_back, flag_within, cases}
+use Rattle.sc_repair.proofs.EquationSteps.{row_of_entries}
+
+bytes_are : (w : ℕ) → IsModule IsByte 0 1 bit_xor gf256_product (IsBytes w) (zero_bytes w) xor_bytes (act_bytes gf256_product)
+bytes_are w = bytes_module gf256_action w
+
+-- a sum of multiples of byte strings
+abbrev comb : ℕ → List ℕ → List (List ℕ) → List ℕ
+comb w cs vs = combination 0 bit_xor gf256_product w cs vs
+
+comb_value : (w : ℕ) (cs : List ℕ) (vs : List (List ℕ)) → All IsByte cs → All (IsBytes w) vs → IsBytes w (comb w cs vs)
+comb_value w cs vs a b = dot_value gf256_field (bytes_are w) cs vs a b
+
+-- ---- the columns
+
+pub columns_more : (row : List ℕ) (n : ℕ) (cols : List ℕ) → AreColumns row n cols → AreColumns row (n + 1) (cols ++ n ∷ [])
+columns_more row n cols h =
+    let long : length (cols ++ n ∷ []) ≡ length cols + 1 = length-append cols (n ∷ []) in
+    let left : (x : ℕ) → x < length cols → get_or (cols ++ n ∷ []) x 0 ≡ get_or cols x 0 = λ x lt. get_or_append_left cols (n ∷ []) 0 x lt in
+    let last : get_or (cols ++ n ∷ []) (length cols) 0 ≡ n = get_or-append_right cols (n ∷ []) (length cols) (length cols) 0 refl (omega arith) ∙ (let e : length cols - length cols ≡ 0 = omega arith in ap (λ (x : ℕ). get_or (n ∷ []) x 0) e) in
+    record {
+      within = λ x lt. elim (cases_lt x (length cols)) [
+        | inl low ↦ (let e = left x low in let w = h.within x low in omega arith)
+        | inr high ↦ (let same : length cols ≡ x = omega arith in subst (λ (y : ℕ). get_or (cols ++ n ∷ []) y 0 < n + 1) same (omega arith))
+      ];
+      all = λ c lt ne. elim (cases_lt c n) [
+        | inl low ↦ (let x = h.all c low ne in (x.0, omega arith, left x.0 x.1 ∙ x.2))
+        | inr high ↦ (length cols, omega arith, last ∙ omega arith)
+      ];
+    }
+
+pub columns_skip : (row : List ℕ) (n : ℕ) (cols : List ℕ) → AreColumns row n cols → get_or row n 0 ≡ 0 → AreColumns row (n + 1) cols
+columns_skip row n cols h zero = record {
+  within = λ x lt. (let w = h.within x lt in omega arith);
+  all = λ c lt ne. elim (cases_lt c n) [
+    | inl low ↦ h.all c low ne
+    | inr high ↦ absurd (ne (let same : n ≡ c = omega arith in subst (λ (y : ℕ). get_or row y 0 ≡ 0) same zero))
+  ];
+}
+
+-- ---- the terms
+
+comb_more : (w c : ℕ) (row : List ℕ) (vs : List (List ℕ)) → All IsByte row → All (IsBytes w) vs → c < length row → c < length vs
+    → comb w (take (c + 1) row) (take (c + 1) vs) ≡ xor_bytes (comb w (take c row) (take c vs)) (act_bytes gf256_product (get_or row c 0) (get_or vs c []))
+comb_more w c row vs a b l k =
+    let ml = bytes_are w in
+    let x = get_or row c 0 in
+    let v = get_or vs c [] in
+    let hx : IsByte x = All-get_or IsByte row c 0 l a in
+    let hv : IsBytes w v = All-get_or (IsBytes w) vs c [] k b in
+    let lr : length (take c row) ≡ length (take c vs) = length-take-le c row (omega arith) ∙ sym (length-take-le c vs (omega arith)) in
+    let both : comb w (take c row ++ x ∷ []) (take c vs ++ v ∷ []) ≡ xor_bytes (comb w (take c row) (take c vs)) (comb w (x ∷ []) (v ∷ [])) =
+    dot-append gf256_field ml (take c row) (x ∷ []) (take c vs) (v ∷ []) lr (vector_of (take c row) (All-take IsByte c row a)) (vector_of (x ∷ []) (All-cons IsByte x [] hx (All-nil IsByte)))
+    (vector_of (take c vs) (All-take (IsBytes w) c vs b)) (vector_of (v ∷ []) (All-cons (IsBytes w) v [] hv (All-nil (IsBytes w)))) in
+    ap₂ (comb w) (take_more row c 0 l) (take_more vs c [] k) ∙ both ∙ ap (xor_bytes (comb w (take c row) (take c vs))) (ml.plus_none (act_bytes gf256_product x v) (ml.times_value x v hx hv))
+
+module _ {T : Type 0} (coefficient place : T → ℕ) where
+  pub terms_none : (w : ℕ) (row : List ℕ) → AreTerms coefficient place w row 0 []
+  terms_none w row = record {
+    elements = λ c lt. absurd (omega arith);
+    within = All-nil _;
+    total = λ bytes dst ld lb ad ab ar. sym ((bytes_are w).plus_none dst (record { width = ld; entries = ad }));
+  }
+
+  elements_more : (row : List ℕ) (n : ℕ) → ((c : ℕ) → c < n → get_or row c 0 < 256) → get_or row n 0 < 256 → (c : ℕ) → c < n + 1 → get_or row c 0 < 256
+  elements_more row n low here c lt = elim (cases_lt c n) [
+    | inl l ↦ low c l
+    | inr h ↦ (let same : n ≡ c = omega arith in subst (λ (y : ℕ). get_or row y 0 < 256) same here)
+  ]
+
+  within_more : (w n : ℕ) (terms : List T) → All (λ t. place t + w ≤ n * w) terms → All (λ t. place t + w ≤ (n + 1) * w) terms
+  within_more w n terms h = λ k d lt. (let x = h k d lt in let e : (n + 1) * w ≡ n * w + 1 * w = add-mul n 1 w in omega arith)
+
+  pub terms_more : (w : ℕ) (row : List ℕ) (n : ℕ) (terms : List T) (t : T) → AreTerms coefficient place w row n terms → n < length row → get_or row n 0 < 256 → coefficient t ≡ get_or row n 0 → place t ≡ n * w
+      → AreTerms coefficient place w row (n + 1) (terms ++ t ∷ [])
+  terms_more w row n terms t h lt byte ec ep =
+      let e : (n + 1) * w ≡ n * w + 1 * w = add-mul n 1 w in
+      record {
+        elements = elements_more row n h.elements byte;
+        within = All-append (λ t. place t + w ≤ (n + 1) * w) terms (t ∷ []) (within_more w n terms h.within) (All-cons (λ t. place t + w ≤ (n + 1) * w) t [] (omega arith) (All-nil (λ t. place t + w ≤ (n + 1) * w)));
+        total = λ bytes dst ld lb ad ab ar.
+            let ml = bytes_are w in
+            let cuts = cut (length row) w bytes in
+            let lc : length cuts ≡ length row = length-cut (length row) w bytes in
+            let values = vectors-cut IsByte (length row) w bytes lb ab in
+            let sum = comb w (take n row) (take n cuts) in
+            let hs : IsBytes w sum = comb_value w (take n row) (take n cuts) (All-take IsByte n row ar) (All-take (IsBytes w) n cuts values) in
+            let part = get_or cuts n [] in
+            let hp : IsBytes w part = All-get_or (IsBytes w) cuts n [] (omega arith) values in
+            let hd : IsBytes w dst = record { width = ld; entries = ad } in
+            let all = add_vectors bit_xor dst sum in
+            let la : length all ≡ w = (ml.plus_value dst sum hd hs).width in
+            let f : T → ℕ → ℕ = λ t. gf256_product (coefficient t) in
+            let step : (a : List ℕ) → List ℕ = λ a. scaled_sum (f t) a (take (length a) (drop (place t) bytes)) in
+            let taken : take (length all) (drop (place t) bytes) ≡ part = ap₂ (λ (x y : ℕ). take x (drop y bytes)) la ep ∙ sym (get_or-cut (length row) w bytes n [] lt) in
+            let term : act_bytes gf256_product (coefficient t) part ≡ act_bytes gf256_product (get_or row n 0) part = ap (λ (x : ℕ). act_bytes gf256_product x part) ec in
+            let added : scaled_sum (f t) all part ≡ add_vectors bit_xor all (act_bytes gf256_product (coefficient t) part) = scaled_sum_is (f t) all part (hp.width ∙ sym la) in
+            let hx : IsBytes w (act_bytes gf256_product (get_or row n 0) part) = ml.times_value (get_or row n 0) part byte hp in
+            fold_push (λ (a : List ℕ) (t : T). scaled_sum (f t) a (take (length a) (drop (place t) bytes))) dst terms t ∙ ap step (h.total bytes dst ld lb ad ab ar)
+            ∙ ap (scaled_sum (f t) all) taken ∙ added ∙ ap (add_vectors bit_xor all) term ∙ ml.plus_assoc dst sum (act_bytes gf256_product (get_or row n 0) part) hd hs hx
+            ∙ ap (add_vectors bit_xor dst) (sym (comb_more w n row cuts ar values lt (omega arith)));
+      }
+
+  pub terms_skip : (w : ℕ) (row : List ℕ) (n : ℕ) (terms : List T) → AreTerms coefficient place w row n terms → n < length row → get_or row n 0 ≡ 0 → AreTerms coefficient place w row (n + 1) terms
+  terms_skip w row n terms h lt none = record {
+    elements = elements_more row n h.elements (omega arith);
+    within = within_more w n terms h.within;
+    total = λ bytes dst ld lb ad ab ar.
+        let ml = bytes_are w in
+        let cuts = cut (length row) w bytes in
+        let lc : length cuts ≡ length row = length-cut (length row) w bytes in
+        let values = vectors-cut IsByte (length row) w bytes lb ab in
+        let sum = comb w (take n row) (take n cuts) in
+        let hs : IsBytes w sum = comb_value w (take n row) (take n cuts) (All-take IsByte n row ar) (All-take (IsBytes w) n cuts values) in
+        let part = get_or cuts n [] in
+        let hp : IsBytes w part = All-get_or (IsBytes w) cuts n [] (omega arith) values in
+        h.total bytes dst ld lb ad ab ar
+        ∙ ap (add_vectors bit_xor dst) (sym (comb_more w n row cuts ar values lt (omega arith) ∙ ap (λ (x : ℕ). xor_bytes sum (act_bytes gf256_product x part)) none ∙ ap (xor_bytes sum) (ml.times_zero part hp) ∙ ml.plus_none sum hs));
+  }
+
+  -- all terms make the combination
+  pub terms_all : (w : ℕ) (row : List ℕ) (terms : List T) → AreTerms coefficient place w row (length row) terms → (bytes dst : List ℕ) → length dst ≡ w → length bytes ≡ length row * w → All IsByte dst → All IsByte bytes
+      → combined (λ t. gf256_product (coefficient t)) place terms dst bytes ≡ add_vectors bit_xor dst (comb w row (cut (length row) w bytes))
+  terms_all w row terms h bytes dst ld lb ad ab =
+      h.total bytes dst ld lb ad ab (All-from_get_or IsByte row 0 h.elements)
+      ∙ ap (add_vectors bit_xor dst) (ap₂ (comb w) (take_all (length row) row (omega arith)) (take_all (length row) (cut (length row) w bytes) (let l = length-cut (length row) w bytes in omega arith)))
+
+-- ---- a row among others
+
+module _ (n first : ℕ) (row : List ℕ) (room : first + length row ≤ n) where
+  pub length-placed : length (placed n first row) ≡ n
+  length-placed =
+      let a : length (replicate {A = ℕ} first 0) ≡ first = length-replicate first 0 in
+      let b : length (replicate {A = ℕ} (n - (first + length row)) 0) ≡ n - (first + length row) = length-replicate (n - (first + length row)) 0 in
+      let c = length-append row (replicate (n - (first + length row)) 0) in
+      length-append (replicate first 0) (row ++ replicate (n - (first + length row)) 0) ∙ omega arith
+
+  zeros_at : (k i : ℕ) → get_or (replicate {A = ℕ} k 0) i 0 ≡ 0
+  zeros_at k i = elim (cases_lt i k) [
+    | inl lt ↦ get_or-replicate k i 0 0 lt
+    | inr past ↦ get_or_past (replicate k 0) i 0 (let l : length (replicate {A = ℕ} k 0) ≡ k = length-replicate k 0 in omega arith)
+  ]
+
+  pub placed_before : (c : ℕ) → c < first → get_or (placed n first row) c 0 ≡ 0
+  placed_before c lt =
+      get_or_append_left (replicate first 0) (row ++ replicate (n - (first + length row)) 0) 0 c (let l : length (replicate {A = ℕ} first 0) ≡ first = length-replicate first 0 in omega arith) ∙ zeros_at first c
+
+  placed_from : (c : ℕ) → first ≤ c → get_or (placed n first row) c 0 ≡ get_or (row ++ replicate (n - (first + length row)) 0) (c - first) 0
+  placed_from c le = get_or-append_right (replicate first 0) (row ++ replicate (n - (first + length row)) 0) first c 0 (length-replicate first 0) le
+
+  pub placed_here : (c : ℕ) → first ≤ c → c < first + length row → get_or (placed n first row) c 0 ≡ get_or row (c - first) 0
+  placed_here c le lt = placed_from c le ∙ get_or_append_left row (replicate (n - (first + length row)) 0) 0 (c - first) (omega arith)
+
+  pub placed_past : (c : ℕ) → first + length row ≤ c → get_or (placed n first row) c 0 ≡ 0
+  placed_past c le =
+      placed_from c (omega arith) ∙ get_or-append_right row (replicate (n - (first + length row)) 0) (length row) (c - first) 0 refl (omega arith) ∙ zeros_at (n - (first + length row)) (c - first - length row)
+
+  pub bytes-placed : All IsByte row → All IsByte (placed n first row)
+  bytes-placed a = All-append IsByte (replicate first 0) (row ++ replicate (n - (first + length row)) 0) (All-replicate IsByte first 0 (omega arith)) (All-append IsByte row (replicate (n - (first + length row)) 0) a (All-replicate IsByte (n - (first + length row)) 0 (omega arith)))
+
+  -- the row as it is written
+  module _ (flags : List Bool) (cols : List ℕ) (are : AreColumns row (length row) cols) where
+    pub opening_start : (out : List ℕ) → out ≡ replicate n 0 → IsOpening n first row flags cols 0 out
+    opening_start out e = record {
+      count = ap length e ∙ length-replicate n 0;
+      each = λ c lt. inl (ap (λ (o : List ℕ). get_or o c 0) e ∙ zeros_at n c);
+      these = λ x lt. absurd (omega arith);
+    }
+
+    module _ (i : ℕ) (out : List ℕ) (h : IsOpening n first row flags cols i out) (lt : i < length cols) where
+      pub opening_skip : get_or flags (first + get_or cols i 0) false ≡ true → IsOpening n first row flags cols (i + 1) out
+      opening_skip e =
+          let within = are.within i lt in
+          let at = first + get_or cols i 0 in
+          let none : open_at n first row flags at ≡ 0 = cond-true (get_or flags at false) 0 (get_or (placed n first row) at 0) e in
+          let here : get_or out at 0 ≡ open_at n first row flags at = elim (h.each at (omega arith)) [
+            | inl z ↦ z ∙ sym none
+            | inr z ↦ z
+          ] in
+          record {
+            count = h.count;
+            each = h.each;
+            these = λ x lx. elim (cases_lt x i) [
+              | inl low ↦ h.these x low
+              | inr high ↦ (let same : i ≡ x = omega arith in subst (λ (y : ℕ). get_or out (first + get_or cols y 0) 0 ≡ open_at n first row flags (first + get_or cols y 0)) same here)
+            ];
+          }
+
+      pub opening_more : get_or flags (first + get_or cols i 0) false ≡ false → IsOpening n first row flags cols (i + 1) (set out (first + get_or cols i 0) (get_or row (get_or cols i 0) 0))
+      opening_more e =
+          let within = are.within i lt in
+          let col = get_or cols i 0 in
+          let at = first + col in
+          let x = get_or row col 0 in
+          let long = h.count in
+          let back : at - first ≡ col = omega arith in
+          let is : x ≡ open_at n first row flags at = sym (cond-false (get_or flags at false) 0 (get_or (placed n first row) at 0) e ∙ placed_here at (omega arith) (omega arith) ∙ ap (λ (y : ℕ). get_or row y 0) back) in
+          let new : (c : ℕ) → c ≡ at → get_or (set out at x) c 0 ≡ open_at n first row flags c = λ c same. subst (λ (y : ℕ). get_or (set out at x) y 0 ≡ open_at n first row flags y) (sym same) (get_or-set_same out at x 0 (omega arith) ∙ is) in
+          record {
+            count = length-set out at x ∙ h.count;
+            each = λ c lc. elim (cases_eq c at) [
+              | inl same ↦ inr (new c same)
+              | inr other ↦ subst (λ (y : ℕ). (y ≡ 0) ⊎ (y ≡ open_at n first row flags c)) (sym (get_or-set_other out at c x 0 other)) (h.each c lc)
+            ];
+            these = λ y ly. elim (cases_lt y i) [
+              | inl low ↦ elim (cases_eq (first + get_or cols y 0) at) [
+                | inl same ↦ new (first + get_or cols y 0) same
+                | inr other ↦ get_or-set_other out at (first + get_or cols y 0) x 0 other ∙ h.these y low
+              ]
+              | inr high ↦ (let same : i ≡ y = omega arith in new (first + get_or cols y 0) (ap (λ (z : ℕ). first + get_or cols z 0) (sym same)))
+            ];
+          }
+
+    pub opening_done : (out : List ℕ) (i : ℕ) → i ≡ length cols → IsOpening n first row flags cols i out → (c : ℕ) → c < n → get_or out c 0 ≡ open_at n first row flags c
+    opening_done out i all h c lt = elim (h.each c lt) [
+      | inr e ↦ e
+      | inl z ↦
+          let zero : get_or (placed n first row) c 0 ≡ 0 → get_or out c 0 ≡ open_at n first row flags c = λ none. z ∙ sym (elim (cases (get_or flags c false)) [
+            | inl e ↦ cond-true (get_or flags c false) 0 (get_or (placed n first row) c 0) e
+            | inr e ↦ cond-false (get_or flags c false) 0 (get_or (placed n first row) c 0) e ∙ none
+          ]) in
+          elim (cases_lt c first) [
+            | inl before ↦ zero (placed_before c before)
+            | inr from ↦
+                elim (cases_lt c (first + length row)) [
+                  | inr past ↦ zero (placed_past c past)
+                  | inl here ↦
+                      elim (cases_eq (get_or row (c - first) 0) 0) [
+                        | inl none ↦ zero (placed_here c from here ∙ none)
+                        | inr some ↦
+                            let k = are.all (c - first) (omega arith) some in
+                            let at : first + get_or cols k.0 0 ≡ c = (let e = k.2 in omega arith) in
+                            let lk = k.1 in
+                            subst (λ (y : ℕ). get_or out y 0 ≡ open_at n first row flags y) at (h.these k.0 (omega arith))
+                      ]
+                ]
+          ]
+    ]
+
+  -- where all columns with a coefficient are left out, nothing is left
+  pub open_none : (flags : List Bool) → ((c : ℕ) → c < length row → get_or flags (first + c) false ≡ false → get_or row c 0 ≡ 0) → (c : ℕ) → open_at n first row flags c ≡ 0
+  open_none flags none c = elim (cases (get_or flags c false)) [
+    | inl e ↦ cond-true (get_or flags c false) 0 (get_or (placed n first row) c 0) e
+    | inr e ↦
+        cond-false (get_or flags c false) 0 (get_or (placed n first row) c 0) e ∙ elim (cases_lt c first) [
+          | inl before ↦ placed_before c before
+          | inr from ↦
+              elim (cases_lt c (first + length row)) [
+                | inr past ↦ placed_past c past
+                | inl here ↦
+                    let at : first + (c - first) ≡ c = omega arith in
+                    placed_here c from here ∙ none (c - first) (omega arith) (ap (λ (y : ℕ). get_or flags y false) at ∙ e)
+              ]
+        ]
+  ]
