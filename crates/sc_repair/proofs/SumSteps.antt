@@ -282,3 +282,172 @@ module _ (n first : ℕ) (row : List ℕ) (room : first + length row ≤ n) wher
               ]
         ]
   ]
+
+-- ---- an equation without its whole columns
+
+module _ (w : ℕ) (whole : List Bool) (row row' : List ℕ) (vs stored : List (List ℕ)) (a : All IsByte row) (hv : All (IsBytes w) vs) (hs : All (IsBytes w) stored) (lv : length vs ≡ length row) (ls : length stored ≡ length row)
+    (count : length row' ≡ length row) (has : HasStored whole stored vs) (blank : (c : ℕ) → c < length row → get_or whole c false ≡ false → get_or stored c [] ≡ zero_bytes w)
+    (left : (c : ℕ) → c < length row → get_or row' c 0 ≡ cond (get_or whole c false) 0 (get_or row c 0)) where
+  left_byte : (c : ℕ) → c < length row → IsByte (get_or row' c 0)
+  left_byte c lt = elim (cases (get_or whole c false)) [
+    | inl e ↦ (let z = left c lt ∙ cond-true (get_or whole c false) 0 (get_or row c 0) e in omega arith)
+    | inr e ↦ (let z = left c lt ∙ cond-false (get_or whole c false) 0 (get_or row c 0) e in let b = All-get_or IsByte row c 0 lt a in omega arith)
+  ]
+
+  pub left_bytes : All IsByte row'
+  left_bytes = All-from_get_or IsByte row' 0 (λ i lt. left_byte i (omega arith))
+
+  -- the coefficients of the whole columns
+  abbrev gone : List ℕ
+  gone = add_vectors bit_xor row row'
+
+  length-gone : length (add_vectors bit_xor row row') ≡ length row
+  length-gone = length-add_vectors bit_xor row row' (sym count)
+
+  gone_at : (c : ℕ) → c < length row → get_or (add_vectors bit_xor row row') c 0 ≡ bit_xor (get_or row c 0) (get_or row' c 0)
+  gone_at c lt = get_or-add_vectors bit_xor row row' c 0 (sym count) lt
+
+  gone_bytes : All IsByte (add_vectors bit_xor row row')
+  gone_bytes = All-from_get_or IsByte (add_vectors bit_xor row row') 0 (λ i lt.
+      let low : i < length row = (let l = length-gone in omega arith) in
+      subst IsByte (sym (gone_at i low)) (gf256_field.add_element (get_or row i 0) (get_or row' i 0) (All-get_or IsByte row i 0 low a) (left_byte i low)))
+
+  gone_back : row ≡ add_vectors bit_xor (add_vectors bit_xor row row') row'
+  gone_back = sym (xor_back row row' (sym count))
+
+  split : (xs : List (List ℕ)) → All (IsBytes w) xs → comb w row xs ≡ xor_bytes (comb w (add_vectors bit_xor row row') xs) (comb w row' xs)
+  split xs hx = ap (λ (r : List ℕ). comb w r xs) gone_back ∙ dot-add gf256_field (bytes_are w) (add_vectors bit_xor row row') row' xs gone_bytes left_bytes hx (length-gone ∙ sym count)
+
+  gone_same : comb w (add_vectors bit_xor row row') vs ≡ comb w (add_vectors bit_xor row row') stored
+  gone_same =
+      dot_same gf256_field (bytes_are w) (add_vectors bit_xor row row') vs stored gone_bytes hv hs (lv ∙ sym ls) (λ i li lk.
+      let low : i < length row = (let l = length-gone in omega arith) in
+      elim (cases (get_or whole i false)) [
+        | inl e ↦ inr (get_or_default vs i (zero_bytes w) [] (omega arith) ∙ has i e ∙ get_or_default stored i [] (zero_bytes w) (omega arith))
+        | inr e ↦ inl (gone_at i low ∙ ap (bit_xor (get_or row i 0)) (left i low ∙ cond-false (get_or whole i false) 0 (get_or row i 0) e) ∙ xor_self (get_or row i 0))
+      ])
+
+  left_none : comb w row' stored ≡ zero_bytes w
+  left_none =
+      dot_none gf256_field (bytes_are w) row' stored left_bytes hs (λ i li lk.
+      let low : i < length row = omega arith in
+      elim (cases (get_or whole i false)) [
+        | inl e ↦ inl (left i low ∙ cond-true (get_or whole i false) 0 (get_or row i 0) e)
+        | inr e ↦ inr (get_or_default stored i (zero_bytes w) [] lk ∙ blank i low e)
+      ])
+
+  pub open_split : comb w row vs ≡ xor_bytes (comb w row stored) (comb w row' vs)
+  open_split =
+      let ml = bytes_are w in
+      let whole_part : comb w row stored ≡ comb w (add_vectors bit_xor row row') stored =
+      split stored hs ∙ ap (xor_bytes (comb w (add_vectors bit_xor row row') stored)) left_none ∙ ml.plus_none (comb w (add_vectors bit_xor row row') stored) (comb_value w (add_vectors bit_xor row row') stored gone_bytes hs) in
+      split vs hv ∙ ap (λ (z : List ℕ). xor_bytes z (comb w row' vs)) (gone_same ∙ sym whole_part)
+
+  pub open_says : (right sum : List ℕ) → length right ≡ w → sum ≡ add_vectors bit_xor right (comb w row stored) → Gives w row right vs ↔ Gives w row' sum vs
+  open_says right sum lr is =
+      let ml = bytes_are w in
+      let known = comb w row stored in
+      let rest = comb w row' vs in
+      let hk : IsBytes w known = comb_value w row stored a hs in
+      let hr : IsBytes w rest = comb_value w row' vs left_bytes hv in
+      let both : comb w row vs ≡ add_vectors bit_xor rest known = open_split ∙ ml.plus_comm known rest hk hr in (
+        λ g. sym (xor_back rest known (hr.width ∙ sym hk.width)) ∙ ap (λ (z : List ℕ). add_vectors bit_xor z known) (sym both ∙ g) ∙ sym is,
+        λ g. both ∙ ap (λ (z : List ℕ). add_vectors bit_xor z known) (g ∙ is) ∙ xor_back right known (lr ∙ sym hk.width),
+      )
+
+-- ---- the sum over some columns
+
+cut_part : (n w first k : ℕ) (bytes : List ℕ) → length bytes ≡ n * w → first + k ≤ n → cut k w (take (k * w) (drop (first * w) bytes)) ≡ take k (drop first (cut n w bytes))
+cut_part n w first k bytes long room =
+    let lc : length (cut n w bytes) ≡ n = length-cut n w bytes in
+    let ld = length-drop first (cut n w bytes) in
+    let lt' : length (take k (drop first (cut n w bytes))) ≡ k = length-take-le k (drop first (cut n w bytes)) (omega arith) in
+    let lk : length (cut k w (take (k * w) (drop (first * w) bytes))) ≡ k = length-cut k w (take (k * w) (drop (first * w) bytes)) in
+    ext_get_or [] (cut k w (take (k * w) (drop (first * w) bytes))) (take k (drop first (cut n w bytes))) (lk ∙ sym lt') (λ i lt.
+    let low : i < k = omega arith in
+    let inside : i * w + w ≤ k * w = row_within k w i low in
+    let at : (first + i) * w ≡ first * w + i * w = add-mul first i w in
+    let d : List ℕ = drop (first * w) bytes in
+    let cutoff : take w (drop (i * w) (take (k * w) d)) ≡ take w (drop (i * w) d) =
+    (let e : k * w ≡ i * w + (k * w - i * w) = omega arith in ap (λ (x : ℕ). take w (drop (i * w) (take x d))) e) ∙ ap (take w) (drop-take (i * w) (k * w - i * w) d) ∙ take-take w (k * w - i * w) (drop (i * w) d) (omega arith) in
+    get_or-cut k w (take (k * w) d) i [] low ∙ cutoff ∙ ap (take w) (drop-drop (i * w) (first * w) bytes ∙ ap (λ (x : ℕ). drop x bytes) (sym at))
+    ∙ sym (get_or-cut n w bytes (first + i) [] (omega arith)) ∙ sym (get_or-drop first (cut n w bytes) i []) ∙ sym (get_or-take k (drop first (cut n w bytes)) i [] low))
+
+zeros_give : (w k : ℕ) (vs : List (List ℕ)) → All (IsBytes w) vs → comb w (replicate k 0) vs ≡ zero_bytes w
+zeros_give w k vs h = dot_none gf256_field (bytes_are w) (replicate k 0) vs (All-replicate IsByte k 0 (omega arith)) h (λ i li lk. inl (get_or-replicate k i 0 0 (let l : length (replicate {A = ℕ} k 0) ≡ k = length-replicate k 0 in omega arith)))
+
+pub placed_gives : (n w first : ℕ) (row bytes : List ℕ) → All IsByte row → All IsByte bytes → length bytes ≡ n * w → first + length row ≤ n
+    → comb w (placed n first row) (cut n w bytes) ≡ comb w row (cut (length row) w (take (length row * w) (drop (first * w) bytes)))
+placed_gives n w first row bytes ar ab long room =
+    let ml = bytes_are w in
+    let k = length row in
+    let all = cut n w bytes in
+    let values = vectors-cut IsByte n w bytes long ab in
+    let la : length all ≡ n = length-cut n w bytes in
+    let front = take first all in
+    let rest = drop first all in
+    let mid = take k rest in
+    let last = drop k rest in
+    let lf : length front ≡ first = length-take-le first all (omega arith) in
+    let lr : length rest ≡ n - first = length-drop first all ∙ ap (λ (x : ℕ). x - first) la in
+    let lm : length mid ≡ k = length-take-le k rest (omega arith) in
+    let ll : length last ≡ n - first - k = length-drop k rest ∙ ap (λ (x : ℕ). x - k) lr in
+    let hf = All-take (IsBytes w) first all values in
+    let hr = All-drop (IsBytes w) first all values in
+    let hm = All-take (IsBytes w) k rest hr in
+    let hl = All-drop (IsBytes w) k rest hr in
+    let zf = All-replicate IsByte first 0 (omega arith) in
+    let zl = All-replicate IsByte (n - (first + k)) 0 (omega arith) in
+    let parts : all ≡ front ++ (mid ++ last) = sym (take-append-drop first all) ∙ ap (λ (x : List (List ℕ)). front ++ x) (sym (take-append-drop k rest)) in
+    let hml = All-append (IsBytes w) mid last hm hl in
+    let z1 : length (replicate {A = ℕ} first 0) ≡ first = length-replicate first 0 in
+    let hrow = comb_value w row mid ar hm in
+    ap (comb w (placed n first row)) parts
+    ∙ dot-append gf256_field ml (replicate first 0) (row ++ replicate (n - (first + k)) 0) front (mid ++ last) (omega arith) (vector_of (replicate first 0) zf) (vector_of (row ++ replicate (n - (first + k)) 0) (All-append IsByte row (replicate (n - (first + k)) 0) ar zl))
+    (vector_of front hf) (vector_of (mid ++ last) hml)
+    ∙ ap₂ xor_bytes (zeros_give w first front hf) (dot-append gf256_field ml row (replicate (n - (first + k)) 0) mid last (sym lm) (vector_of row ar) (vector_of (replicate (n - (first + k)) 0) zl) (vector_of mid hm) (vector_of last hl)
+    ∙ ap (xor_bytes (comb w row mid)) (zeros_give w (n - (first + k)) last hl) ∙ ml.plus_none (comb w row mid) hrow)
+    ∙ none_plus gf256_field ml (comb w row mid) hrow
+    ∙ ap (comb w row) (sym (cut_part n w first k bytes long room))
+
+-- ---- what a prepared sum says
+
+module _ (known : Knowledge ℕ) (whole free : List Bool) (bytes row right : List ℕ) (first : ℕ) (h : IsColumns known whole free bytes) (room : first + length row ≤ known.cols) (a : All IsByte row) (lr : length right ≡ known.width) where
+  pub sum_says : (row' sum : List ℕ) → length row' ≡ known.cols → ((c : ℕ) → c < known.cols → get_or row' c 0 ≡ open_at known.cols first row whole c)
+      → sum ≡ add_vectors bit_xor right (comb known.width row (cut (length row) known.width (take (length row * known.width) (drop (first * known.width) bytes))))
+      → (vs : List (List ℕ)) → IsSolution gf256_product (all_known known whole bytes) vs → Gives known.width (placed known.cols first row) right vs ↔ Gives known.width row' sum vs
+  sum_says row' sum count left is vs s =
+      let n = known.cols in
+      let w = known.width in
+      let stored = cut n w bytes in
+      let both = (all_known-iff known whole bytes h.whole_count vs).0 s in
+      let lp : length (placed n first row) ≡ n = length-placed n first row room in
+      let ap' = bytes-placed n first row room a in
+      let lv = s.values.width in
+      let ls : length stored ≡ n = length-cut n w bytes in
+      open_says w whole (placed n first row) row' vs stored ap' s.values.entries (vectors-cut IsByte n w bytes h.byte_count h.are_bytes) (lv ∙ sym lp) (ls ∙ sym lp) (count ∙ sym lp) both.1
+      (λ c lt e. h.blank c (omega arith) e) (λ c lt. left c (omega arith)) right sum lr (is ∙ ap (add_vectors bit_xor right) (sym (placed_gives n w first row bytes a h.are_bytes h.byte_count room)))
+
+  pub open_bytes : (row' : List ℕ) → length row' ≡ known.cols → ((c : ℕ) → c < known.cols → get_or row' c 0 ≡ open_at known.cols first row whole c) → All IsByte row'
+  open_bytes row' count left = All-from_get_or IsByte row' 0 (λ i lt.
+      let low : i < known.cols = omega arith in
+      let ap' = bytes-placed known.cols first row room a in
+      let lp : length (placed known.cols first row) ≡ known.cols = length-placed known.cols first row room in
+      elim (cases (get_or whole i false)) [
+        | inl e ↦ (let z = left i low ∙ cond-true (get_or whole i false) 0 (get_or (placed known.cols first row) i 0) e in omega arith)
+        | inr e ↦ (let z = left i low ∙ cond-false (get_or whole i false) 0 (get_or (placed known.cols first row) i 0) e in let b = All-get_or IsByte (placed known.cols first row) i 0 (omega arith) ap' in omega arith)
+      ])
+
+  pub open_out : (row' : List ℕ) → length row' ≡ known.cols → ((c : ℕ) → c < known.cols → get_or row' c 0 ≡ open_at known.cols first row whole c) → (c : ℕ) → get_or whole c false ≡ true → get_or row' c 0 ≡ 0
+  open_out row' count left c e = (let lt = flag_within whole c e in let l = h.whole_count in left c (omega arith) ∙ cond-true (get_or whole c false) 0 (get_or (placed known.cols first row) c 0) e)
+
+-- ---- equations that say the same
+
+pub learns_alike : (old new : Knowledge ℕ) (P Q : List (List ℕ) → Type 0) → ((vs : List (List ℕ)) → IsSolution gf256_product old vs → P vs ↔ Q vs) → Learns old new Q → Learns old new P
+learns_alike old new P Q same h vs = (
+  λ x. (let y = (h vs).0 x in (y.0, (same vs y.0).1 y.1)),
+  λ x. (h vs).1 (x.0, (same vs x.0).0 x.1),
+)
+
+pub refuses_alike : (old : Knowledge ℕ) (P Q : List (List ℕ) → Type 0) → ((vs : List (List ℕ)) → IsSolution gf256_product old vs → P vs ↔ Q vs) → Refuses old Q → Refuses old P
+refuses_alike old P Q same h vs s p = h vs s ((same vs s).0 p)
