@@ -27,8 +27,8 @@ use Rattle.sc_echelon.proofs.DotLaws.{dot_value, dot_none, dot_same, dot-add}
 use Rattle.sc_repair.specs.Equations.{Gives, Learns, Refuses}
 use Rattle.sc_repair.specs.Columns.{HasStored, IsColumns, all_known}
 use Rattle.sc_repair.specs.Sum.{placed, open_at, AreColumns, AreTerms, IsOpening}
-use Rattle.sc_repair.proofs.ColumnSteps.{all_known-iff, xor_back, flag_within, cases}
-use Rattle.sc_repair.proofs.EquationSteps.{row_of_entries}
+use Rattle.sc_repair.proofs.ColumnSteps.{all_known-iff, xor_back, flag_within, cases, zero_says}
+use Rattle.sc_repair.proofs.EquationSteps.{row_of_entries, fewer_columns}
 
 bytes_are : (w : ℕ) → IsModule IsByte 0 1 bit_xor gf256_product (IsBytes w) (zero_bytes w) xor_bytes (act_bytes gf256_product)
 bytes_are w = bytes_module gf256_action w
@@ -440,6 +440,22 @@ module _ (known : Knowledge ℕ) (whole free : List Bool) (bytes row right : Lis
 
   pub open_out : (row' : List ℕ) → length row' ≡ known.cols → ((c : ℕ) → c < known.cols → get_or row' c 0 ≡ open_at known.cols first row whole c) → (c : ℕ) → get_or whole c false ≡ true → get_or row' c 0 ≡ 0
   open_out row' count left c e = (let lt = flag_within whole c e in let l = h.whole_count in left c (omega arith) ∙ cond-true (get_or whole c false) 0 (get_or (placed known.cols first row) c 0) e)
+
+  -- where all columns with a coefficient are whole
+  pub within_says : (sum : List ℕ) → ((c : ℕ) → c < length row → get_or whole (first + c) false ≡ false → get_or row c 0 ≡ 0)
+      → sum ≡ add_vectors bit_xor right (comb known.width row (cut (length row) known.width (take (length row * known.width) (drop (first * known.width) bytes))))
+      → (vs : List (List ℕ)) → IsSolution gf256_product (all_known known whole bytes) vs → Gives known.width (placed known.cols first row) right vs ↔ (zero_bytes known.width ≡ sum)
+  within_says sum within is vs s =
+      let n = known.cols in
+      let zeros : (c : ℕ) → c < n → get_or (replicate {A = ℕ} n 0) c 0 ≡ 0 = λ c lt. get_or-replicate n c 0 0 lt in
+      let lz : length (replicate {A = ℕ} n 0) ≡ n = length-replicate n 0 in
+      let one = sum_says (replicate n 0) sum lz (λ c lt. zeros c lt ∙ sym (open_none n first row room whole within c)) is vs s in
+      let two = zero_says known.width (replicate n 0) sum vs (All-replicate IsByte n 0 (omega arith)) s.values.entries (λ c lt. zeros c (omega arith)) in
+      (λ g. two.0 (one.0 g), λ z. one.1 (two.1 z))
+
+-- the bytes of some columns
+pub part_long : (n w first k : ℕ) → first + k ≤ n → first * w + k * w ≤ n * w
+part_long n w first k room = (let e : (first + k) * w ≡ first * w + k * w = add-mul first k w in let le = fewer_columns (first + k) n w room in omega arith)
 
 -- ---- equations that say the same
 

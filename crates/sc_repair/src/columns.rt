@@ -1,5 +1,5 @@
 //! What is known of the columns of symbols: the bytes of those that came, and what equations say of the others.
-ghost use Rattle.std.specs.Prelude.{◌≡◌, ◌+◌, ◌*◌, ◌<◌, ◌≤◌, ◌++◌, ℕ, List, IfOk, MatchOption, All, true, false, length, drop, replicate, slice_index_or, slice_set};
+ghost use Rattle.std.specs.Prelude.{◌≡◌, ◌+◌, ◌*◌, ◌<◌, ◌≤◌, ◌++◌, ℕ, List, IfOk, MatchOption, All, true, false, length, take, drop, replicate, slice_index_or, slice_set};
 ghost use Rattle.sc_field.specs.Gf256.{gf256_product};
 ghost use Rattle.sc_field.specs.Scale.{scaled_sum};
 ghost use Rattle.sc_matrix.specs.Module.{IsByte};
@@ -349,6 +349,14 @@ fn add_open(
     }
 }
 
+// The bytes of `count` columns from column `first` on.
+fn part_of(bytes: &[u8], first: usize, count: usize, m: usize) -> &[u8]
+    requires { first * m + count * m ≤ length bytes.now }
+    ensures { result.now ≡ take (count * m) (drop (first * m) bytes.now) }
+{
+    &bytes[first * m..first * m + count * m]
+}
+
 // Adds the equation of a parity symbol whose columns begin at `first`, of which `sum` is the right side, with room for a row. Row
 // and sum are lost.
 fn add_sum(
@@ -379,7 +387,7 @@ fn add_sum(
     ensures refuses { result ≡ false → Refuses (all_known known.old whole.now bytes.now) (Gives known.old.width (placed known.old.cols first parity.now.row) sum.old) }
 {
     let (m, count) = (sum.len(), parity.cols());
-    parity.add_to(sum, &bytes[first * m..first * m + count * m]);
+    parity.add_to(sum, part_of(bytes, first, count, m));
     if parity.is_within(&whole[first..first + count]) {
         return is_zero(sum);
     }
