@@ -1,8 +1,8 @@
 -- The terms of a parity symbol as its row, and what the row says where some columns are whole.
-use Rattle.std.proofs.Common.{◌≡◌, ◌≢◌, ◌⊎◌, ◌↔◌, ℕ, zero as nought, suc, ◌+◌, ◌-◌, ◌*◌, ◌<◌, ◌≤◌, Bool, true, false, cond, leb, List, [], ◌∷◌, ◌++◌, length, get_or, map, set, take, drop, replicate, flat_map, All, bit_xor, refl, sym, ap, ap₂, ◌∙◌, subst, arith, length-set, add-mul, inl, inr}
+use Rattle.std.proofs.Common.{◌≡◌, ◌≢◌, ◌⊎◌, ◌↔◌, ℕ, zero as nought, suc, ◌+◌, ◌-◌, ◌*◌, ◌<◌, ◌≤◌, Bool, true, false, cond, leb, List, [], ◌∷◌, ◌++◌, length, get_or, map, set, take, drop, replicate, flat_map, All, bit_xor, refl, sym, ap, ap₂, ◌∙◌, subst, arith, length-set, add-mul, suc-mul, inl, inr}
 use Rattle.std.specs.List.{range_with_len}
 use Rattle.std.specs.Int.Bits.{xor_self, xor_zero_r}
-use Rattle.std.proofs.lemmas.Bool.{cases_lt, cases_eq, cond-true, cond-false}
+use Rattle.std.proofs.lemmas.Bool.{cases_lt, cases_eq, cond-true, cond-false, le-leb, lt-leb}
 use Rattle.std.proofs.lemmas.List.{length-replicate, length-append, length-take-le, length-drop, get_or-replicate, get_or-take, get_or-drop, get_or_past, get_or_default, get_or_append_left, get_or-append_right, get_or-set_same, get_or-set_other, take-append-drop, take-take, drop-drop, drop-take, take_more, take_all, ext_get_or}
 use Rattle.std.proofs.lemmas.List.Elements.{All-append, All-cons, All-nil, All-replicate, All-from_get_or, All-get_or, All-take, All-drop}
 use Rattle.std.proofs.lemmas.List.FromFn.{length-map-range_with_len, get_or-map-range_with_len}
@@ -467,3 +467,82 @@ learns_alike old new P Q same h vs = (
 
 pub refuses_alike : (old : Knowledge ℕ) (P Q : List (List ℕ) → Type 0) → ((vs : List (List ℕ)) → IsSolution gf256_product old vs → P vs ↔ Q vs) → Refuses old Q → Refuses old P
 refuses_alike old P Q same h vs s p = h vs s ((same vs s).0 p)
+
+-- ---- the row of a parity symbol at a place
+
+length-row_part : {A : Type 0} (g : ℕ → ℕ → A) (k s n : ℕ) → length (flat_map (λ p. map (g p) (range_with_len 0 k)) (range_with_len s n)) ≡ n * k
+length-row_part g k s nought = omega arith
+length-row_part g k s (suc n) =
+    length-append (map (g s) (range_with_len 0 k)) (flat_map (λ p. map (g p) (range_with_len 0 k)) (range_with_len (s + 1) n))
+    ∙ omega (arith, length-map-range_with_len (g s) 0 k, length-row_part g k (s + 1) n, suc-mul n k)
+
+pub length-row_of : {A : Type 0} (g : ℕ → ℕ → A) (k n : ℕ) → length (row_of k n g) ≡ n * k
+length-row_of g k n = length-row_part g k 0 n
+
+row_part_at : {A : Type 0} (g : ℕ → ℕ → A) (d : A) (k s n p i : ℕ) → p < n → i < k → get_or (flat_map (λ p. map (g p) (range_with_len 0 k)) (range_with_len s n)) (p * k + i) d ≡ g (s + p) i
+row_part_at g d k s nought p i hp hi = absurd (omega arith)
+row_part_at g d k s (suc n) nought i hp hi =
+    let at : 0 * k + i ≡ i = omega arith in
+    let here : s ≡ s + 0 = omega arith in
+    let l = length-map-range_with_len (g s) 0 k in
+    ap (λ (c : ℕ). get_or (map (g s) (range_with_len 0 k) ++ flat_map (λ p. map (g p) (range_with_len 0 k)) (range_with_len (s + 1) n)) c d) at
+    ∙ get_or_append_left (map (g s) (range_with_len 0 k)) (flat_map (λ p. map (g p) (range_with_len 0 k)) (range_with_len (s + 1) n)) d i (omega arith)
+    ∙ get_or-map-range_with_len (g s) 0 k i i d hi (omega arith) ∙ ap (λ (q : ℕ). g q i) here
+row_part_at g d k s (suc n) (suc p) i hp hi =
+    let e : suc p * k ≡ k + p * k = omega (arith, suc-mul p k) in
+    let at : suc p * k + i - k ≡ p * k + i = omega arith in
+    let here : s + 1 + p ≡ s + suc p = omega arith in
+    get_or-append_right (map (g s) (range_with_len 0 k)) (flat_map (λ p. map (g p) (range_with_len 0 k)) (range_with_len (s + 1) n)) k (suc p * k + i) d (length-map-range_with_len (g s) 0 k) (omega arith)
+    ∙ ap (λ (c : ℕ). get_or (flat_map (λ p. map (g p) (range_with_len 0 k)) (range_with_len (s + 1) n)) c d) at
+    ∙ row_part_at g d k (s + 1) n p i (omega arith) hi ∙ ap (λ (q : ℕ). g q i) here
+
+row_at : {A : Type 0} (g : ℕ → ℕ → A) (d : A) (k n p i : ℕ) → p < n → i < k → get_or (row_of k n g) (p * k + i) d ≡ g p i
+row_at g d k n p i hp hi = row_part_at g d k 0 n p i hp hi ∙ (let e : 0 + p ≡ p = omega arith in ap (λ (q : ℕ). g q i) e)
+
+-- the columns of the blocks that a parity reaches
+pub own_room : (code : Code ℕ) (places place j : ℕ) → 1 ≤ length code.lags → length code.lags ≤ place + 1 → place < places
+    → (place - (length code.lags - 1)) * code.k + length (parity_row 0 1 code (length code.lags) (length code.lags - 1) j) ≤ places * code.k
+own_room code places place j some reach lt =
+    let k = code.k in
+    let n = length code.lags in
+    let off = place - (n - 1) in
+    let l : length (parity_row 0 1 code n (n - 1) j) ≡ n * k = length-row_of (λ p s. cond (leb p (n - 1)) (coefficient 0 code (n - 1 - p) s j) 0) k n in
+    let le = part_long places k off n (omega arith) in
+    omega arith
+
+pub own_placed : (code : Code ℕ) (places place j : ℕ) → 1 ≤ length code.lags → length code.lags ≤ place + 1 → place < places
+    → placed (places * code.k) ((place - (length code.lags - 1)) * code.k) (parity_row 0 1 code (length code.lags) (length code.lags - 1) j) ≡ parity_row 0 1 code places place j
+own_placed code places place j some reach lt =
+    let k = code.k in
+    let n = length code.lags in
+    let off = place - (n - 1) in
+    let g : ℕ → ℕ → ℕ = λ p s. cond (leb p (n - 1)) (coefficient 0 code (n - 1 - p) s j) 0 in
+    let row = parity_row 0 1 code n (n - 1) j in
+    let l : length row ≡ n * k = length-row_of g k n in
+    let room = own_room code places place j some reach lt in
+    let first = off * k in
+    let all = places * k in
+    row_of_entries (λ p s. cond (leb p place) (coefficient 0 code (place - p) s j) 0) 0 k places (placed all first row) (length-placed all first row room) (λ p s hp hs.
+    elim (cases_lt p off) [
+      | inl before ↦
+          let within = row_within off k p before in
+          let past : coefficient 0 code (place - p) s j ≡ 0 = coefficient-past 0 code (place - p) s j (omega arith) in
+          placed_before all first row room (p * k + s) (omega arith) ∙ sym (cond-true (leb p place) (coefficient 0 code (place - p) s j) 0 (le-leb p place (omega arith)) ∙ past)
+      | inr from ↦
+          elim (cases_lt place p) [
+            | inl past ↦
+                let within = row_within p k place past in
+                let e : (off + n) * k ≡ off * k + n * k = add-mul off n k in
+                let e' : place * k + k ≡ (off + n) * k = (let f : (place + 1) * k ≡ place * k + 1 * k = add-mul place 1 k in let same : place + 1 ≡ off + n = omega arith in let m = ap (λ (x : ℕ). x * k) same in omega arith) in
+                placed_past all first row room (p * k + s) (omega arith) ∙ sym (cond-false (leb p place) (coefficient 0 code (place - p) s j) 0 (lt-leb p place past))
+            | inr upto ↦
+                let q = p - off in
+                let e : p * k ≡ off * k + q * k = (let f : p ≡ off + q = omega arith in ap (λ (x : ℕ). x * k) f ∙ add-mul off q k) in
+                let within = row_within n k q (omega arith) in
+                let at : p * k + s - first ≡ q * k + s = omega arith in
+                let lag : n - 1 - q ≡ place - p = omega arith in
+                placed_here all first row room (p * k + s) (omega arith) (omega arith) ∙ ap (λ (c : ℕ). get_or row c 0) at ∙ row_at g 0 k n q s (omega arith) hs
+                ∙ cond-true (leb q (n - 1)) (coefficient 0 code (n - 1 - q) s j) 0 (le-leb q (n - 1) (omega arith)) ∙ ap (λ (x : ℕ). coefficient 0 code x s j) lag
+                ∙ sym (cond-true (leb p place) (coefficient 0 code (place - p) s j) 0 (le-leb p place (omega arith)))
+          ]
+    ])

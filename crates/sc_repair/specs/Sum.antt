@@ -49,8 +49,11 @@ pub record IsPrepared {T : Type 0} (coefficient place : T → ℕ) (width : ℕ)
   pub columns : AreColumns row (length row) cols
   pub are_terms : AreTerms coefficient place width row (length row) terms
 
--- a sum for each parity symbol of a code, over as many blocks as it remembers and one more, for symbols of m bytes
-pub record AreSums (code : Code ℕ) (m : ℕ) (sums : List RowSum) : Type 0 where
-  pub count : length sums ≡ code.r
-  pub rows : (j : ℕ) (d : RowSum) → j < code.r → (slice_index_or sums j d).row ≡ parity_row 0 1 code (length code.lags) (length code.lags - 1) j
-  pub widths : (j : ℕ) (d : RowSum) → j < code.r → (slice_index_or sums j d).width ≡ m
+-- the sum of parity symbol j of a code, over as many blocks as it remembers and one more, for symbols of m bytes
+abbrev pub own_sum : Code ℕ → ℕ → ℕ → RowSum
+own_sum code m j = record { row = parity_row 0 1 code (length code.lags) (length code.lags - 1) j; width = m }
+
+-- those of the first n parity symbols
+pub record AreSums (code : Code ℕ) (m n : ℕ) (sums : List RowSum) : Type 0 where
+  pub count : length sums ≡ n
+  pub each : (j : ℕ) (d : RowSum) → j < n → slice_index_or sums j d ≡ own_sum code m j
