@@ -1,7 +1,7 @@
 -- The terms of a parity symbol as its row, and what the row says where some columns are whole.
-use Rattle.std.proofs.Common.{◌≡◌, ◌≢◌, ◌⊎◌, ◌↔◌, ℕ, zero as nought, suc, ◌+◌, ◌-◌, ◌*◌, ◌<◌, ◌≤◌, Bool, true, false, cond, leb, List, [], ◌∷◌, ◌++◌, length, get_or, map, set, take, drop, replicate, flat_map, All, bit_xor, refl, sym, ap, ap₂, ◌∙◌, subst, arith, length-set, add-mul, suc-mul, inl, inr}
+use Rattle.std.proofs.Common.{◌≡◌, ◌⊎◌, ◌↔◌, ℕ, zero as nought, suc, ◌+◌, ◌-◌, ◌*◌, ◌<◌, ◌≤◌, Bool, true, false, cond, leb, List, [], ◌∷◌, ◌++◌, length, get_or, map, set, take, drop, replicate, flat_map, All, bit_xor, refl, sym, ap, ap₂, ◌∙◌, subst, arith, length-set, add-mul, suc-mul, inl, inr}
 use Rattle.std.specs.List.{range_with_len}
-use Rattle.std.specs.Int.Bits.{xor_self, xor_zero_r}
+use Rattle.std.specs.Int.Bits.{xor_self}
 use Rattle.std.proofs.lemmas.Bool.{cases_lt, cases_eq, cond-true, cond-false, le-leb, lt-leb}
 use Rattle.std.proofs.lemmas.List.{length-replicate, length-append, length-take-le, length-drop, get_or-replicate, get_or-take, get_or-drop, get_or_past, get_or_default, get_or_append_left, get_or-append_right, get_or-set_same, get_or-set_other, take-append-drop, take-take, drop-drop, drop-take, take_more, take_all, ext_get_or}
 use Rattle.std.proofs.lemmas.List.Elements.{All-append, All-cons, All-nil, All-replicate, All-from_get_or, All-get_or, All-take, All-drop}
@@ -12,7 +12,7 @@ use Rattle.sc_field.specs.Laws.Gf256Laws.{gf256_field, gf256_action}
 use Rattle.sc_field.specs.Scale.{scaled_sum}
 use Rattle.sc_field.specs.Terms.{combined}
 use Rattle.sc_matrix.specs.Module.{IsByte, IsModule}
-use Rattle.sc_matrix.specs.Vector.{IsVector, add_vectors, combination}
+use Rattle.sc_matrix.specs.Vector.{add_vectors, combination}
 use Rattle.sc_matrix.specs.Layout.{cut}
 use Rattle.sc_matrix.proofs.LayoutLaws.{vectors-cut, length-cut, get_or-cut, row_within}
 use Rattle.sc_matrix.proofs.VectorLaws.{vector_of, length-add_vectors, get_or-add_vectors}

@@ -156,11 +156,7 @@ fn sum_of(alloc: Global, code: &ByteCode, m: usize, j: usize) -> Result<ParitySu
 }
 
 // The sum of each parity symbol of a code.
-pub(crate) fn sums_of(
-    alloc: Global,
-    code: &ByteCode,
-    m: usize,
-) -> Result<Vec<ParitySum>, NoMemory>
+pub(crate) fn sums_of(alloc: Global, code: &ByteCode, m: usize) -> Result<Vec<ParitySum>, NoMemory>
     requires { code.now.k * m ≤ 65503 }
     ensures { IfOk result (λ v. AreSums code.now m code.now.r v.items) }
 {

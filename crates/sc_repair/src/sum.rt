@@ -37,11 +37,7 @@ impl Model for ParitySum {
 
 impl ParitySum {
     // The sum with these coefficients.
-    pub(crate) fn of(
-        alloc: Global,
-        row: Vec<Gf256>,
-        width: usize,
-    ) -> Result<ParitySum, NoMemory>
+    pub(crate) fn of(alloc: Global, row: Vec<Gf256>, width: usize) -> Result<ParitySum, NoMemory>
         requires { length row.items * width ≤ 67108864 }
         ensures { IfOk result (λ s. s ≡ record { row = row.items; width = width }) }
     {
@@ -141,11 +137,7 @@ fn cols_of(alloc: Global, row: &[Gf256]) -> Result<Vec<usize>, NoMemory>
 }
 
 // The multiple of each of these, of byte strings of `width` bytes.
-fn terms_of(
-    alloc: Global,
-    row: &[Gf256],
-    width: usize,
-) -> Result<Vec<Term<Gf256>>, NoMemory>
+fn terms_of(alloc: Global, row: &[Gf256], width: usize) -> Result<Vec<Term<Gf256>>, NoMemory>
     requires { length row.now * width ≤ 67108864 }
     ensures { IfOk result (λ v. AreTerms (λ t. t.multiplier.coefficient) (λ t. t.at) width row.now (length row.now) v.items) }
 {

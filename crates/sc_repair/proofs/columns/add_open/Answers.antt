@@ -1,4 +1,4 @@
-use Rattle.std.proofs.Common.{◌≡◌, ℕ, length, sym, ap, ◌∙◌, subst}
+use Rattle.std.proofs.Common.{◌≡◌, ℕ, sym, ap, ◌∙◌, subst}
 use Rattle.sc_echelon.specs.Knowledge.{Knowledge, zero_bytes}
 use Rattle.sc_echelon.specs.declared.knowledge.Added.TheVariants.{New, Known}
 use Rattle.sc_repair.specs.Equations.{Gives, Learns}

@@ -1,5 +1,3 @@
-use Rattle.std.proofs.Common.{ℕ, length, ◌∙◌, subst}
-use Rattle.sc_echelon.specs.Knowledge.{Knowledge}
 use Rattle.sc_repair.specs.Equations.{Gives}
 use Rattle.sc_repair.specs.Columns.{all_known}
 use Rattle.sc_repair.proofs.ColumnSteps.{says_here}

@@ -1,9 +1,9 @@
-use Rattle.std.proofs.Common.{◌≡◌, ℕ, ◌*◌, ◌+◌, ◌<◌, ◌≤◌, List, [], All, true, false, length, get_or, take, drop, bit_xor, refl, sym, ap, ap₂, ◌∙◌, subst, arith}
+use Rattle.std.proofs.Common.{◌≡◌, ℕ, ◌*◌, ◌+◌, ◌<◌, ◌≤◌, List, false, length, get_or, take, drop, bit_xor, sym, ap, ap₂, ◌∙◌, subst, arith}
 use Rattle.std.proofs.lemmas.List.{get_or-take, get_or-drop, length-take-le, length-drop}
 use Rattle.sc_field.specs.Gf256.{gf256_product}
 use Rattle.sc_matrix.specs.Vector.{add_vectors, combination}
 use Rattle.sc_matrix.specs.Layout.{cut}
-use Rattle.sc_echelon.specs.Knowledge.{Knowledge, zero_bytes}
+use Rattle.sc_echelon.specs.Knowledge.{zero_bytes}
 use Rattle.sc_repair.specs.Equations.{Gives}
 use Rattle.sc_repair.specs.Columns.{all_known}
 use Rattle.sc_repair.specs.Sum.{placed, open_at}
