@@ -3,7 +3,8 @@ use Rattle.std.proofs.Common.{◌≡◌, ◌≢◌, ◌⊎◌, ◌↔◌, ℕ, z
 use Rattle.std.specs.List.{range_with_len}
 use Rattle.std.specs.Int.Bits.{xor_assoc, xor_self, xor_zero_r}
 use Rattle.std.proofs.lemmas.Bool.{cases_lt, cases_eq, cond-true, cond-false}
-use Rattle.std.proofs.lemmas.List.{length-replicate, length-map, length-append, length-take-le, length-drop, get_or-replicate, get_or-take, get_or-drop, get_or_past, get_or_default, get_or_append_left, get_or-append_right, get_or-append-add, get_or-set_same, get_or-set_other, take-append-drop, take-append-le, drop-append-le, drop-drop, ext_get_or}
+use Rattle.std.proofs.Math.Seq.{drop-append-add}
+use Rattle.std.proofs.lemmas.List.{take-replicate, drop-replicate, length-replicate, length-map, length-append, length-take-le, length-drop, get_or-replicate, get_or-take, get_or-drop, get_or_past, get_or_default, get_or_append_left, get_or-append_right, get_or-append-add, get_or-set_same, get_or-set_other, take_all, nil_from_length, take-append-drop, take-append-le, drop-append-le, drop-drop, ext_get_or}
 use Rattle.std.proofs.lemmas.List.Elements.{All-append, All-replicate, All-set, All-from_get_or, All-get_or, All-head, All-tail, All-nil, All-take, All-drop}
 use Rattle.std.proofs.lemmas.List.FromFn.{length-map-range_with_len, get_or-map-range_with_len}
 use borrow.Rule.Slice.PartMut.{put_mid}
@@ -13,7 +14,7 @@ use Rattle.sc_field.specs.Laws.Gf256Laws.{gf256_field, gf256_action}
 use Rattle.sc_matrix.specs.Module.{IsByte, IsModule}
 use Rattle.sc_matrix.specs.Vector.{IsVector, add_vectors, combination}
 use Rattle.sc_matrix.specs.Layout.{cut}
-use Rattle.sc_matrix.proofs.LayoutLaws.{vectors-cut, length-cut, get_or-cut, cut-put_mid, length-put_mid, row_within}
+use Rattle.sc_matrix.proofs.LayoutLaws.{vectors-cut, length-cut, get_or-cut, cut-put_mid, cut-replicate, length-put_mid, row_within}
 use Rattle.sc_matrix.proofs.VectorLaws.{length-add_vectors}
 use Rattle.sc_matrix.proofs.ModuleLaws.{none_plus}
 use Rattle.sc_matrix.proofs.ByteSteps.{scaled_sum_is}
@@ -23,13 +24,13 @@ use Rattle.sc_echelon.specs.Knowledge.{Knowledge, IsSolution, IsBytes, IsValueAt
 use Rattle.sc_echelon.proofs.Bytes.{bytes_module}
 use Rattle.sc_echelon.proofs.DotLaws.{dot_value, dot_none, dot_one, dot_same}
 use Rattle.sc_repair.specs.Equations.{Learns, Refuses, Gives}
-use Rattle.sc_repair.specs.Columns.{stored_row, all_known, HasStored, IsFree, IsColumns, SaysSame, TakenOut}
+use Rattle.sc_repair.specs.Columns.{stored_row, all_known, HasStored, IsFree, IsQuiet, IsColumns, SaysSame, TakenOut}
 
 -- bytes in hand are bytes
 pub are_bytes : (bytes : List ℕ) → ((i : ℕ) → Fits w8 (get_or bytes i 0)) → All IsByte bytes
 are_bytes bytes f = All-from_get_or IsByte bytes 0 (λ i lt. (f i).fits)
 
-cases : (b : Bool) → (b ≡ true) ⊎ (b ≡ false)
+pub cases : (b : Bool) → (b ≡ true) ⊎ (b ≡ false)
 cases true = inl refl
 cases false = inr refl
 
@@ -48,7 +49,7 @@ module_of w = bytes_module gf256_action w
 value_of_sum : (w : ℕ) (cs : List ℕ) (vs : List (List ℕ)) → All IsByte cs → All (IsBytes w) vs → IsBytes w (combination 0 bit_xor gf256_product w cs vs)
 value_of_sum w cs vs a b = dot_value gf256_field (module_of w) cs vs a b
 
-xor_back : (a t : List ℕ) → length a ≡ length t → add_vectors bit_xor (add_vectors bit_xor a t) t ≡ a
+pub xor_back : (a t : List ℕ) → length a ≡ length t → add_vectors bit_xor (add_vectors bit_xor a t) t ≡ a
 xor_back [] t e = refl
 xor_back (x ∷ a) [] e = absurd (omega arith)
 xor_back (x ∷ a) (y ∷ t) e =
@@ -340,6 +341,7 @@ columns_more old new whole free free' bytes h cols width count within is_free =
       free_count = count ∙ h.free_count ∙ sym cols;
       byte_count = h.byte_count ∙ ap₂ (λ (a b : ℕ). a * b) (sym cols) (sym width);
       are_bytes = h.are_bytes;
+      blank = λ c lt e. ap (λ (st : List (List ℕ)). get_or st c []) (same_stored old new bytes cols width) ∙ h.blank c (omega arith) e ∙ ap zero_bytes (sym width);
       within = within;
       is_free = is_free;
     }
@@ -386,6 +388,7 @@ columns_start n w some =
       free_count = length-replicate n true;
       byte_count = length-replicate (n * w) 0;
       are_bytes = All-replicate IsByte (n * w) 0 (omega arith);
+      blank = λ c lt e. ap (λ (st : List (List ℕ)). get_or st c []) (cut-replicate n w 0) ∙ get_or-replicate n c (zero_bytes w) [] lt;
       within = λ c e. (let lt = flag_within (replicate n false) c e in let l = length-replicate n false in absurd (let other : false ≡ true = sym (get_or-replicate n c false false (omega arith)) ∙ e in cc));
       is_free = λ vs us s values same. record { values = values; solves = All-nil _ };
     }
@@ -410,6 +413,12 @@ module _ (known : Knowledge ℕ) (whole free : List Bool) (bytes : List ℕ) (h 
         whole_count = length-set whole col true ∙ h.whole_count;
         free_count = h.free_count;
         byte_count = length-put_mid (col * w) w bytes src (omega arith) long ∙ h.byte_count;
+        blank = λ c lt' e. elim (cases_eq c col) [
+          | inl same ↦ absurd (let other : true ≡ false = sym (get_or-set_same whole col true false (let l = h.whole_count in omega arith)) ∙ ap (λ (x : ℕ). get_or (set whole col true) x false) (sym same) ∙ e in cc)
+          | inr other ↦
+              ap (λ (st : List (List ℕ)). get_or st c []) (cut-put_mid known.cols w bytes col src h.byte_count lt long) ∙ get_or-set_other (cut known.cols w bytes) col c src [] other
+              ∙ h.blank c lt' (sym (get_or-set_other whole col c true false other) ∙ e)
+        ];
         are_bytes = All-append IsByte (take (col * w) bytes) (src ++ drop w (drop (col * w) bytes)) (All-take IsByte (col * w) bytes h.are_bytes) (All-append IsByte src (drop w (drop (col * w) bytes)) are_bytes (All-drop IsByte w (drop (col * w) bytes) (All-drop IsByte (col * w) bytes h.are_bytes)));
         within = λ c e. elim (cases_eq c col) [
           | inl same ↦ subst (λ (x : ℕ). get_or free x false ≡ true) (sym same) is_free_here
@@ -481,10 +490,10 @@ shift_whole flags count i room e =
     ]
 
 module _ (old new : Knowledge ℕ) (whole free : List Bool) (bytes bytes' : List ℕ) (count : ℕ) (h : IsColumns old whole free bytes) (room : count ≤ old.cols) (cols : new.cols ≡ old.cols) (width : new.width ≡ old.width)
-    (forgets : Forgets gf256_product count old new) (moved : (c : ℕ) → get_or whole c false ≡ true → bytes' ≡ drop (count * old.width) bytes ++ replicate (count * old.width) 0) where
+    (forgets : Forgets gf256_product count old new) (moved : bytes' ≡ drop (count * old.width) bytes ++ replicate (count * old.width) 0) where
   -- a stored byte string moves to the front
-  stored_moves : (i : ℕ) → i < old.cols - count → get_or whole (count + i) false ≡ true → get_or (cut old.cols old.width bytes') i [] ≡ get_or (cut old.cols old.width bytes) (count + i) []
-  stored_moves i lt e =
+  stored_moves : (i : ℕ) → i < old.cols - count → get_or (cut old.cols old.width bytes') i [] ≡ get_or (cut old.cols old.width bytes) (count + i) []
+  stored_moves i lt =
       let n = old.cols in
       let w = old.width in
       let l = length-drop (count * w) bytes in
@@ -495,8 +504,25 @@ module _ (old new : Knowledge ℕ) (whole free : List Bool) (bytes bytes' : List
       ap (take w) (drop-append-le (i * w) (drop (count * w) bytes) (replicate (count * w) 0) (omega arith))
       ∙ take-append-le w (drop (i * w) (drop (count * w) bytes)) (replicate (count * w) 0) (let l' = length-drop (i * w) (drop (count * w) bytes) in omega arith)
       ∙ ap (take w) (drop-at (count * w) (i * w) bytes ∙ ap (λ (x : ℕ). drop x bytes) (sym split)) in
-      get_or-cut n w bytes' i [] (omega arith) ∙ ap (λ (b : List ℕ). take w (drop (i * w) b)) (moved (count + i) e) ∙ shifted
+      get_or-cut n w bytes' i [] (omega arith) ∙ ap (λ (b : List ℕ). take w (drop (i * w) b)) moved ∙ shifted
       ∙ sym (get_or-cut n w bytes (count + i) [] (omega arith))
+
+  -- and behind it come zeros
+  stored_ends : (i : ℕ) → old.cols - count ≤ i → i < old.cols → get_or (cut old.cols old.width bytes') i [] ≡ zero_bytes old.width
+  stored_ends i past lt =
+      let n = old.cols in
+      let w = old.width in
+      let k = i - (n - count) in
+      let front = drop (count * w) bytes in
+      let ld : length front ≡ n * w - count * w = length-drop (count * w) bytes ∙ ap (λ (x : ℕ). x - count * w) h.byte_count in
+      let at : i * w ≡ (n - count) * w + k * w = (let e : i ≡ n - count + k = omega arith in ap (λ (x : ℕ). x * w) e ∙ add-mul (n - count) k w) in
+      let parts : n * w ≡ count * w + (n - count) * w = (let e : n ≡ count + (n - count) = omega arith in ap (λ (x : ℕ). x * w) e ∙ add-mul count (n - count) w) in
+      let seam : i * w ≡ length front + k * w = omega arith in
+      let inside = row_within count w k (omega arith) in
+      get_or-cut n w bytes' i [] lt ∙ ap (λ (b : List ℕ). take w (drop (i * w) b)) moved
+      ∙ ap (λ (x : ℕ). take w (drop x (front ++ replicate (count * w) 0))) seam
+      ∙ ap (take w) (drop-append-add front (replicate (count * w) 0) (k * w) ∙ drop-replicate (k * w) (count * w) 0)
+      ∙ take-replicate w (count * w - k * w) 0 (omega arith)
 
   -- lists with some columns in front
   module _ (us vs : List (List ℕ)) (front : IsVector (IsBytes old.width) count us) (values : IsVector (IsBytes old.width) old.cols vs) where
@@ -516,7 +542,7 @@ module _ (old new : Knowledge ℕ) (whole free : List Bool) (bytes bytes' : List
     joined_rest : (c : ℕ) → count ≤ c → c < old.cols → get_or (us ++ take (old.cols - count) vs) c [] ≡ get_or vs (c - count) []
     joined_rest c le lt = get_or-append_right us (take (old.cols - count) vs) count c [] front.width le ∙ get_or-take (old.cols - count) vs (c - count) [] (omega arith)
 
-  free_forgotten : IsFree new (drop count free ++ replicate count true)
+  pub free_forgotten : IsFree new (drop count free ++ replicate count true)
   free_forgotten vs us s values same =
       let n = old.cols in
       let w = old.width in
@@ -548,6 +574,11 @@ module _ (old new : Knowledge ℕ) (whole free : List Bool) (bytes bytes' : List
         free_count = length_shift free count true (omega arith) ∙ h.free_count ∙ sym cols;
         byte_count = same_length ∙ h.byte_count ∙ ap₂ (λ (a b : ℕ). a * b) (sym cols) (sym width);
         are_bytes = bytes_ok;
+        blank = λ c lt e.
+            ap (λ (st : List (List ℕ)). get_or st c []) (ap₂ (λ (a b : ℕ). cut a b bytes') cols width) ∙ elim (cases_lt c (old.cols - count)) [
+              | inl low ↦ stored_moves c low ∙ h.blank (count + c) (omega arith) (sym (shift_low whole count false c (omega arith)) ∙ e)
+              | inr high ↦ stored_ends c high (omega arith)
+            ] ∙ ap zero_bytes (sym width);
         within = λ c e. (let x = shift_whole whole count c (omega arith) e in shift_low free count true c (let lt = x.0 in omega arith) ∙ h.within (count + c) x.1);
         is_free = free_forgotten;
       }
@@ -577,7 +608,7 @@ module _ (old new : Knowledge ℕ) (whole free : List Bool) (bytes bytes' : List
             let back : count + i - count ≡ i = omega arith in
             let there : get_or list (count + i) [] ≡ get_or vs i [] = joined_rest f.0 vs f.1 values (count + i) (omega arith) (omega arith) ∙ ap (λ (x : ℕ). get_or vs x []) back in
             get_or-drop count z i [] ∙ elim (cases (get_or whole (count + i) false)) [
-              | inl e ↦ overlay_whole whole stored list n (count + i) (omega arith) e ∙ sym (stored_moves i low e) ∙ sym (has i (shift_low whole count false i (omega arith) ∙ e)) ∙ sym (get_or-take (n - count) vs i [] low)
+              | inl e ↦ overlay_whole whole stored list n (count + i) (omega arith) e ∙ sym (stored_moves i low) ∙ sym (has i (shift_low whole count false i (omega arith) ∙ e)) ∙ sym (get_or-take (n - count) vs i [] low)
               | inr e ↦ overlay_other whole stored list n (count + i) (omega arith) e ∙ there ∙ sym (get_or-take (n - count) vs i [] low)
             ]) in
             let joined : z ≡ take count z ++ take (n - count) vs = sym (take-append-drop count z) ∙ ap (λ (y : List (List ℕ)). take count z ++ y) rest in
@@ -591,6 +622,53 @@ module _ (old new : Knowledge ℕ) (whole free : List Bool) (bytes bytes' : List
                   let y = shift_whole whole count i (omega arith) e in
                   let low : i < n - count = (let lt = y.0 in omega arith) in
                   let back : count + i - count ≡ i = omega arith in
-                  sym (ap (λ (v : ℕ). get_or vs v []) back) ∙ sym (joined_rest us vs s.1 values (count + i) (omega arith) (omega arith)) ∙ x.1 (count + i) y.1 ∙ sym (stored_moves i low y.1)),
+                  sym (ap (λ (v : ℕ). get_or vs v []) back) ∙ sym (joined_rest us vs s.1 values (count + i) (omega arith) (omega arith)) ∙ x.1 (count + i) y.1 ∙ sym (stored_moves i low)),
             ),
       )
+
+-- ---- equations that say nothing
+
+-- where each column is free they say nothing at all
+pub quiet_where_free : (known : Knowledge ℕ) (free : List Bool) → ((vs : List (List ℕ)) × IsSolution gf256_product known vs) → IsFree known free → ((c : ℕ) → c < known.cols → get_or free c false ≡ true) → IsQuiet known
+quiet_where_free known free some h all us values =
+    h some.0 us some.1 values (λ c lt e. absurd (let other : true ≡ false = sym (all c lt) ∙ e in cc))
+
+-- they say as much once columns are forgotten
+pub forgets_quiet : (known : Knowledge ℕ) (count : ℕ) → 1 ≤ known.width → count ≤ known.cols → IsQuiet known → Forgets gf256_product count known known
+forgets_quiet known count some room quiet vs values =
+    let n = known.cols in
+    let w = known.width in
+    let us : List (List ℕ) = replicate count (zero_bytes w) in
+    let zeros : IsBytes w (zero_bytes w) = record { width = length-replicate w 0; entries = All-replicate IsByte w 0 (omega arith) } in
+    let lu : length us ≡ count = length-replicate count (zero_bytes w) in
+    let lv = values.width in
+    let lt' = length-take-le (n - count) vs (omega arith) in (
+      λ s. (
+        us,
+        record { width = lu; entries = All-replicate (IsBytes w) count (zero_bytes w) zeros },
+        quiet (us ++ take (n - count) vs) (record {
+          width = length-append us (take (n - count) vs) ∙ omega arith;
+          entries = All-append (IsBytes w) us (take (n - count) vs) (All-replicate (IsBytes w) count (zero_bytes w) zeros) (All-take (IsBytes w) (n - count) vs values.entries);
+        }),
+      ),
+      λ s. quiet vs values,
+    )
+
+-- nothing is known at the start
+pub quiet_start : (n w : ℕ) → IsQuiet (nothing_known n w)
+quiet_start n w vs values = record { values = values; solves = All-nil _ }
+
+-- they say as much where none is forgotten
+pub forgets_none : (known : Knowledge ℕ) → Forgets gf256_product 0 known known
+forgets_none known vs values =
+    let all : take (known.cols - 0) vs ≡ vs = take_all (known.cols - 0) vs (let l = values.width in omega arith) in (
+      λ s. ([], record { width = refl; entries = All-nil (IsBytes known.width) }, subst (IsSolution gf256_product known) (sym all) s),
+      λ s.
+          let none : s.0 ≡ [] = nil_from_length s.0 s.1.width in
+          subst (IsSolution gf256_product known) (ap (λ (us : List (List ℕ)). us ++ take (known.cols - 0) vs) none ∙ all) s.2,
+    )
+
+-- fewer columns are free
+pub columns_less : (known : Knowledge ℕ) (whole free free' : List Bool) (bytes : List ℕ) → IsColumns known whole free bytes → length free' ≡ length free
+    → ((c : ℕ) → get_or whole c false ≡ true → get_or free' c false ≡ true) → ((c : ℕ) → get_or free' c false ≡ true → get_or free c false ≡ true) → IsColumns known whole free' bytes
+columns_less known whole free free' bytes h count within less = columns_more known known whole free free' bytes h refl refl count within (free_less known free free' h.is_free less)

@@ -35,19 +35,26 @@ IsFree known free =
     → ((c : ℕ) → c < known.cols → slice_index_or free c false ≡ false → slice_index_or us c [] ≡ slice_index_or vs c [])
     → IsSolution gf256_product known us
 
--- there is a flag and a byte string for each column, and the equations say nothing of whole columns
+-- the equations say nothing at all
+abbrev pub IsQuiet : Knowledge ℕ → Type 0
+IsQuiet known = (vs : List (List ℕ)) → IsVector (IsBytes known.width) known.cols vs → IsSolution gf256_product known vs
+
+-- There is a flag and a byte string for each column, and that of a column that isn't whole is zero. The equations say nothing
+-- of whole columns.
 pub record IsColumns (known : Knowledge ℕ) (whole free : List Bool) (bytes : List ℕ) : Type 0 where
   pub some : 1 ≤ known.width
   pub whole_count : length whole ≡ known.cols
   pub free_count : length free ≡ known.cols
   pub byte_count : length bytes ≡ known.cols * known.width
   pub are_bytes : All IsByte bytes
+  pub blank : (c : ℕ) → c < known.cols → slice_index_or whole c false ≡ false → slice_index_or (cut known.cols known.width bytes) c [] ≡ zero_bytes known.width
   pub within : (c : ℕ) → slice_index_or whole c false ≡ true → slice_index_or free c false ≡ true
   pub is_free : IsFree known free
 
--- and there is room for a byte string
-pub record IsRoomyColumns (known : Knowledge ℕ) (whole free : List Bool) (bytes sum : List ℕ) : Type 0 where
+-- and there is room for a byte string; where nothing was told, the equations say nothing
+pub record IsRoomyColumns (known : Knowledge ℕ) (told : Bool) (whole free : List Bool) (bytes sum : List ℕ) : Type 0 where
   pub columns : IsColumns known whole free bytes
+  pub quiet : told ≡ false → IsQuiet known
   pub sum_count : length sum ≡ known.width
 
 -- two equations say the same where the whole columns have the stored byte strings

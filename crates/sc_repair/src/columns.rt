@@ -1,6 +1,5 @@
 //! What is known of the columns of symbols: the bytes of those that came, and what equations say of the others.
-ghost use Rattle.std.specs.Prelude.{◌≡◌, ◌+◌, ◌*◌, ◌<◌, ◌≤◌, ◌++◌, ◌⊎◌, ℕ, List, IfOk, MatchOption, All, true, false, length, drop, replicate, slice_index_or, slice_set};
-ghost use borrow.Rule.Slice.PartMut.{put_mid};
+ghost use Rattle.std.specs.Prelude.{◌≡◌, ◌+◌, ◌*◌, ◌<◌, ◌≤◌, ◌++◌, ℕ, List, IfOk, MatchOption, All, true, false, length, take, drop, replicate, slice_index_or, slice_set};
 ghost use Rattle.sc_field.specs.Gf256.{gf256_product};
 ghost use Rattle.sc_field.specs.Scale.{scaled_sum};
 ghost use Rattle.sc_matrix.specs.Module.{IsByte};
@@ -8,8 +7,11 @@ ghost use Rattle.sc_matrix.specs.Vector.{IsVector};
 ghost use Rattle.sc_matrix.specs.Layout.{cut};
 ghost use Rattle.sc_echelon.specs.Knowledge.{IsSolution, IsBytes, IsValueAt, IsOpenAt, Forgets, zero_bytes};
 ghost use Rattle.sc_repair.specs.Equations.{Gives, Learns, Refuses};
-ghost use Rattle.sc_repair.specs.Columns.{IsColumns, SaysSame, all_known};
+ghost use Rattle.sc_repair.specs.Columns.{IsColumns, IsFree, IsQuiet, SaysSame, all_known};
+ghost use Rattle.sc_repair.specs.Sum.{placed};
 
+use super::sum::ParitySum;
+use super::window::Window;
 use sc_echelon::{Added, Knowledge};
 use sc_field::{Field, Gf256, Multiplier, element_of, scale_add};
 use sc_outside::NoMemory;
@@ -21,11 +23,13 @@ use std::marker::Model;
 #[derive(Drop)]
 pub(crate) struct Columns {
     known: Knowledge<Gf256>,
-    // Whether the bytes of a column came. Then they stand in `bytes`.
+    // Whether an equation may say something. While none does, nothing is worked on in `known`.
+    told: bool,
+    // Whether the bytes of a column came. Then they stand in `bytes`, where all others are zeros.
     whole: Vec<bool>,
     // Whether no equation says anything of a column.
     free: Vec<bool>,
-    bytes: Vec<u8>,
+    bytes: Window,
     // Room for a right side.
     sum: Vec<u8>,
     made: Vec<Multiplier<Gf256>>,
@@ -42,9 +46,9 @@ impl Model for Columns {
 
     ghost coded = { knowledge_code coded_ℕ };
 
-    ghost view = { λ s. all_known s.known s.whole.items s.bytes.items };
+    ghost view = { λ s. all_known s.known s.whole.items s.bytes };
 
-    ghost invariant = { λ s. IsRoomyColumns s.known s.whole.items s.free.items s.bytes.items s.sum.items };
+    ghost invariant = { λ s. IsRoomyColumns s.known s.told s.whole.items s.free.items s.bytes s.sum.items };
 }
 
 impl Columns {
@@ -60,12 +64,13 @@ impl Columns {
         let known = Knowledge::start(alloc, cols, width)?;
         let whole = vec![in alloc; false; cols]?;
         let free = vec![in alloc; true; cols]?;
-        let bytes = vec![in alloc; 0; cols * width]?;
+        let bytes = Window::zeros(alloc, cols * width)?;
         let sum = vec![in alloc; 0; width]?;
         let mut made = vec![in alloc; Multiplier::new(Gf256::zero()); 256]?;
         make_all(made.as_mut_slice());
         Ok(Columns {
             known,
+            told: false,
             whole,
             free,
             bytes,
@@ -96,10 +101,45 @@ impl Columns {
         sum.copy_from_slice(right);
         add_rest(
             &mut self.known,
+            &mut self.told,
             self.whole.as_slice(),
             self.free.as_mut_slice(),
             self.bytes.as_slice(),
             self.made.as_slice(),
+            row,
+            sum,
+        )
+    }
+
+    // Adds the equation of a parity symbol whose columns begin at `first`, with room for a row, which is lost. False exactly
+    // where no solution meets it; then nothing else changes.
+    pub(crate) fn add_sum(
+        &mut self,
+        parity: &ParitySum,
+        first: usize,
+        row: &mut [Gf256],
+        right: &[u8],
+    ) -> bool
+        requires room { first + length parity.now.row ≤ self.old.cols }
+        requires parity { parity.now.width ≡ self.old.width }
+        requires row { length row.old ≡ self.old.cols }
+        requires right { length right.now ≡ self.old.width }
+        ensures row { length row.new ≡ length row.old }
+        ensures cols { self.new.cols ≡ self.old.cols }
+        ensures width { self.new.width ≡ self.old.width }
+        ensures learns { result ≡ true → Learns self.old self.new (Gives self.old.width (placed self.old.cols first parity.now.row) right.now) }
+        ensures refuses { result ≡ false → Refuses self.old (Gives self.old.width (placed self.old.cols first parity.now.row) right.now) }
+    {
+        let sum = self.sum.as_mut_slice();
+        sum.copy_from_slice(right);
+        add_sum(
+            &mut self.known,
+            &mut self.told,
+            self.whole.as_slice(),
+            self.free.as_mut_slice(),
+            self.bytes.as_slice(),
+            parity,
+            first,
             row,
             sum,
         )
@@ -117,9 +157,9 @@ impl Columns {
         if self.whole[col] || !self.free[col] {
             return false;
         }
-        let m = self.known.width();
+        let (m, _bytes) = (self.known.width(), self.bytes.len());
         self.whole[col] = true;
-        write_at(self.bytes.as_mut_slice(), col * m, bytes);
+        self.bytes.write_at(col * m, bytes);
         true
     }
 
@@ -142,11 +182,12 @@ impl Columns {
         ensures width { self.new.width ≡ self.old.width }
         ensures solutions { Forgets gf256_product count self.old self.new }
     {
-        let m = self.known.width();
-        shift_stored(self.whole.as_slice(), self.bytes.as_mut_slice(), count * m);
+        let (m, _bytes) = (self.known.width(), self.bytes.len());
+        self.bytes.shift(count * m);
         shift_flags(self.whole.as_mut_slice(), count, false);
         shift_flags(self.free.as_mut_slice(), count, true);
-        self.known.forget_front(count);
+        forget_told(&mut self.known, self.told, count);
+        self.told = still_told(&self.known, self.free.as_slice(), self.told);
     }
 }
 
@@ -247,6 +288,7 @@ fn is_zero(bytes: &[u8]) -> bool
 // Adds an equation, of which `sum` is the right side. Both are lost.
 fn add_rest(
     known: &mut Knowledge<Gf256>,
+    told: &mut bool,
     whole: &[bool],
     free: &mut [bool],
     bytes: &[u8],
@@ -255,8 +297,10 @@ fn add_rest(
     sum: &mut [u8],
 ) -> bool
     requires columns { IsColumns known.old whole.now free.old bytes.now }
+    requires quiet { told.old ≡ false → IsQuiet known.old }
     requires row { length row.old ≡ known.old.cols }
     requires sum { length sum.old ≡ known.old.width }
+    ensures quiet { told.new ≡ false → IsQuiet known.new }
     ensures row { length row.new ≡ length row.old }
     ensures sum { length sum.new ≡ length sum.old }
     ensures free { length free.new ≡ length free.old }
@@ -267,9 +311,63 @@ fn add_rest(
     ensures refuses { result ≡ false → Refuses (all_known known.old whole.now bytes.now) (Gives known.old.width row.old sum.old) }
 {
     take_out(made, whole, bytes, row, sum);
+    add_open(known, told, whole, free, bytes, row, sum)
+}
+
+// Adds an equation that says nothing of the whole columns.
+fn add_open(
+    known: &mut Knowledge<Gf256>,
+    told: &mut bool,
+    whole: &[bool],
+    free: &mut [bool],
+    bytes: &[u8],
+    row: &[Gf256],
+    sum: &[u8],
+) -> bool
+    requires columns { IsColumns known.old whole.now free.old bytes.now }
+    requires quiet { told.old ≡ false → IsQuiet known.old }
+    requires row { length row.now ≡ known.old.cols }
+    requires sum { length sum.now ≡ known.old.width }
+    requires elements { All IsByte row.now }
+    requires out { (c : ℕ) → slice_index_or whole.now c false ≡ true → slice_index_or row.now c 0 ≡ 0 }
+    ensures quiet { told.new ≡ false → IsQuiet known.new }
+    ensures free { length free.new ≡ length free.old }
+    ensures columns { IsColumns known.new whole.now free.new bytes.now }
+    ensures cols { known.new.cols ≡ known.old.cols }
+    ensures width { known.new.width ≡ known.old.width }
+    ensures learns { result ≡ true → Learns (all_known known.old whole.now bytes.now) (all_known known.new whole.now bytes.now) (Gives known.old.width row.now sum.now) }
+    ensures refuses { result ≡ false → Refuses (all_known known.old whole.now bytes.now) (Gives known.old.width row.now sum.now) }
+{
     if !touch(free, row) {
         return is_zero(sum);
     }
+    add_touched(known, told, whole, free, bytes, row, sum)
+}
+
+// Adds an equation that says nothing of the free columns.
+fn add_touched(
+    known: &mut Knowledge<Gf256>,
+    told: &mut bool,
+    whole: &[bool],
+    free: &[bool],
+    bytes: &[u8],
+    row: &[Gf256],
+    sum: &[u8],
+) -> bool
+    requires columns { IsColumns known.old whole.now free.now bytes.now }
+    requires quiet { told.old ≡ false → IsQuiet known.old }
+    requires row { length row.now ≡ known.old.cols }
+    requires sum { length sum.now ≡ known.old.width }
+    requires elements { All IsByte row.now }
+    requires touched { (c : ℕ) → slice_index_or free.now c false ≡ true → slice_index_or row.now c 0 ≡ 0 }
+    ensures quiet { told.new ≡ false → IsQuiet known.new }
+    ensures columns { IsColumns known.new whole.now free.now bytes.now }
+    ensures cols { known.new.cols ≡ known.old.cols }
+    ensures width { known.new.width ≡ known.old.width }
+    ensures learns { result ≡ true → Learns (all_known known.old whole.now bytes.now) (all_known known.new whole.now bytes.now) (Gives known.old.width row.now sum.now) }
+    ensures refuses { result ≡ false → Refuses (all_known known.old whole.now bytes.now) (Gives known.old.width row.now sum.now) }
+{
+    *told = true;
     match known.add_row(row, sum) {
         Added::New => true,
         Added::Known => true,
@@ -277,13 +375,51 @@ fn add_rest(
     }
 }
 
-// Writes some bytes at a place.
-fn write_at(bytes: &mut [u8], at: usize, src: &[u8])
-    requires { at + length src.now ≤ length bytes.old }
-    ensures { bytes.new ≡ put_mid at (length src.now) bytes.old src.now }
+// The bytes of `count` columns from column `first` on.
+fn part_of(bytes: &[u8], first: usize, count: usize, m: usize) -> &[u8]
+    requires { first * m + count * m ≤ length bytes.now }
+    ensures { result.now ≡ take (count * m) (drop (first * m) bytes.now) }
 {
-    let end = at + src.len();
-    bytes[at..end].copy_from_slice(src);
+    &bytes[first * m..first * m + count * m]
+}
+
+// Adds the equation of a parity symbol whose columns begin at `first`, of which `sum` is the right side, with room for a row. Row
+// and sum are lost.
+fn add_sum(
+    known: &mut Knowledge<Gf256>,
+    told: &mut bool,
+    whole: &[bool],
+    free: &mut [bool],
+    bytes: &[u8],
+    parity: &ParitySum,
+    first: usize,
+    row: &mut [Gf256],
+    sum: &mut [u8],
+) -> bool
+    requires columns { IsColumns known.old whole.now free.old bytes.now }
+    requires quiet { told.old ≡ false → IsQuiet known.old }
+    requires room { first + length parity.now.row ≤ known.old.cols }
+    requires parity { parity.now.width ≡ known.old.width }
+    requires row { length row.old ≡ known.old.cols }
+    requires sum { length sum.old ≡ known.old.width }
+    ensures quiet { told.new ≡ false → IsQuiet known.new }
+    ensures row { length row.new ≡ length row.old }
+    ensures sum { length sum.new ≡ length sum.old }
+    ensures free { length free.new ≡ length free.old }
+    ensures columns { IsColumns known.new whole.now free.new bytes.now }
+    ensures cols { known.new.cols ≡ known.old.cols }
+    ensures width { known.new.width ≡ known.old.width }
+    ensures learns { result ≡ true → Learns (all_known known.old whole.now bytes.now) (all_known known.new whole.now bytes.now) (Gives known.old.width (placed known.old.cols first parity.now.row) sum.old) }
+    ensures refuses { result ≡ false → Refuses (all_known known.old whole.now bytes.now) (Gives known.old.width (placed known.old.cols first parity.now.row) sum.old) }
+{
+    let (m, count) = (sum.len(), parity.cols());
+    parity.add_to(sum, part_of(bytes, first, count, m));
+    if parity.is_within(&whole[first..first + count]) {
+        return is_zero(sum);
+    }
+    parity.write_open(row, first, whole);
+    parity.touch_open(free, first, whole);
+    add_touched(known, told, whole, free, bytes, row, sum)
 }
 
 // Moves the flags behind the first `count` to the front, and writes as many behind them.
@@ -296,36 +432,41 @@ fn shift_flags(flags: &mut [bool], count: usize, fill: bool)
     flags[kept..].fill(fill);
 }
 
-// Whether a flag is set.
-fn has_one(flags: &[bool]) -> bool
-    ensures { result ≡ false → (c : ℕ) → slice_index_or flags.now c false ≡ true → ⊥ }
+// Whether a flag isn't set.
+fn has_off(flags: &[bool]) -> bool
+    ensures { result ≡ false → (c : ℕ) → c < length flags.now → slice_index_or flags.now c false ≡ true }
 {
     for c in 0..flags.len() {
-        if flags[c] {
+        if !flags[c] {
             return true;
         }
     }
     false
 }
 
-// Moves the bytes behind the first `count` to the front, if some column is whole. Else none of them counts.
-fn shift_stored(whole: &[bool], bytes: &mut [u8], count: usize)
-    requires { count ≤ length bytes.old }
-    ensures count { length bytes.new ≡ length bytes.old }
-    ensures either { (bytes.new ≡ bytes.old) ⊎ (bytes.new ≡ drop count bytes.old ++ replicate count 0) }
-    ensures moved { (c : ℕ) → slice_index_or whole.now c false ≡ true → bytes.new ≡ drop count bytes.old ++ replicate count 0 }
+// Forgets the first columns of the equations, if one was told.
+fn forget_told(known: &mut Knowledge<Gf256>, told: bool, count: usize)
+    requires some { 1 ≤ known.old.width }
+    requires quiet { told ≡ false → IsQuiet known.old }
+    requires count { count ≤ known.old.cols }
+    ensures cols { known.new.cols ≡ known.old.cols }
+    ensures width { known.new.width ≡ known.old.width }
+    ensures solutions { Forgets gf256_product count known.old known.new }
+    ensures quiet { told ≡ false → IsQuiet known.new }
 {
-    if has_one(whole) {
-        shift_bytes(bytes, count);
+    if !told || count == 0 {
+        return;
     }
+    known.forget_front(count);
 }
 
-// Moves the bytes behind the first `count` to the front, and writes zeros behind them.
-fn shift_bytes(bytes: &mut [u8], count: usize)
-    requires { count ≤ length bytes.old }
-    ensures { bytes.new ≡ drop count bytes.old ++ replicate count 0 }
+// Whether an equation may still say something.
+fn still_told(known: &Knowledge<Gf256>, free: &[bool], told: bool) -> bool
+    requires quiet { told ≡ false → IsQuiet known.now }
+    requires count { length free.now ≡ known.now.cols }
+    requires free { IsFree known.now free.now }
+    ensures { result ≡ false → IsQuiet known.now }
 {
-    let kept = bytes.len() - count;
-    bytes.copy_within(count.., 0);
-    bytes[kept..].fill(0);
+    known.known();
+    told && has_off(free)
 }

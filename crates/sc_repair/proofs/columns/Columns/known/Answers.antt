@@ -8,4 +8,4 @@ pub returns-clause-solvable : goal.returns-clause-solvable
 returns-clause-solvable c =
     let e = c.self.inside in
     subst (λ (k : Knowledge ℕ). (vs : List (List ℕ)) × IsSolution gf256_product k vs) c.self.view_is
-    (some_solves e.known e.whole.items e.free.items e.bytes.items c.self.invariant.columns c.known.ensures.solvable)
+    (some_solves e.known e.whole.items e.free.items e.bytes c.self.invariant.columns c.known.ensures.solvable)
