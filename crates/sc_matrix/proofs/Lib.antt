@@ -29,3 +29,5 @@ pub mod NumberLaws
 pub mod EqualLaws
 pub mod LayoutLaws
 pub mod ByteSteps
+pub mod MatrixSteps
+pub mod LayoutSteps

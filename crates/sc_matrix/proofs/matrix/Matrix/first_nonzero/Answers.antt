@@ -8,9 +8,6 @@ use Rattle.sc_matrix.proofs.MatrixLaws.{row-map}
 use Rattle.sc_matrix.proofs.LayoutLaws.{length-cut}
 use Rattle.sc_matrix.proofs.matrix.Matrix.first_nonzero.Goals as goal
 
-pub first_nonzero-requires : goal.first_nonzero-requires
-first_nonzero-requires g c = omega (arith, count_of g.F.Field.element c.self.inside.numbers c.args.self.now c.self.view_is)
-
 pub returns : goal.returns
 returns g c =
     let r = c.self.inside.numbers in

@@ -5,15 +5,6 @@ use Rattle.sc_matrix.specs.Rows.{table}
 use Rattle.sc_matrix.proofs.NumberLaws.{count_of, width_of, numbers-mul}
 use Rattle.sc_matrix.proofs.matrix.Matrix.mul.Goals as goal
 
-pub product-requires : goal.product-requires
-product-requires g c =
-    let f = g.F.Field.element in
-    let k = count_of f c.self.inside.numbers c.args.self.now c.self.view_is in
-    let w = width_of f c.self.inside.numbers c.args.self.now c.self.view_is in
-    let k' = count_of f c.other.inside.numbers c.args.other.now c.other.view_is in
-    let w' = width_of f c.other.inside.numbers c.args.other.now c.other.view_is in
-    record { inner = sym w ∙ c.requires.inner ∙ k'; small = rw (← k, ← w') c.requires.small; numbers = c.self.invariant }
-
 pub invariant_of-result : goal.invariant_of-result
 invariant_of-result g c =
     rw c.in_ok-numbers.ensures (numbers-mul g.met.F.Field.field g.met.F.Field.action g.met.F.Field.numbered g.met.F.Field.by_number (table c.self.inside.numbers) (table c.other.inside.numbers) c.self.invariant c.other.invariant).0

@@ -19,10 +19,3 @@ loop-i-preserved g c =
       elements =
           All-same g.F.Field.IsElement _ _ c.in_ok-push.ensures.items (All-push g.F.Field.IsElement c.loop-i.out.items c.dot_product.result c.loop-i.invariant.elements c.dot_product.ensures.element);
     }
-
-pub returns-clause-value : goal.returns-clause-value
-returns-clause-value g c =
-    let m = c.args.self.now in
-    let n = c.rows-i-end.ensures.count in
-    c.loop-i.invariant.items
-    ∙ ap (map (λ (r : List g.row.F.Denot). dot g.F.Field.zero g.F.Field.add g.F.Field.mul r c.args.v.now)) (take_all c.loop-i.i m.rows (omega arith))

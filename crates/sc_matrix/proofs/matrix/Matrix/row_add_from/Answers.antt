@@ -6,9 +6,6 @@ use Rattle.sc_matrix.proofs.NumberLaws.{count_of, width_of, numbers-add_row_from
 use Rattle.sc_matrix.proofs.LayoutLaws.{length-cut}
 use Rattle.sc_matrix.proofs.matrix.Matrix.row_add_from.Goals as goal
 
-pub row_add-requires : goal.row_add-requires
-row_add-requires g c = record { target = omega (arith, count_of g.F.Field.element c.self.inside.numbers c.args.self.now c.self.view_is); source = omega (arith, count_of g.F.Field.element c.self.inside.numbers c.args.self.now c.self.view_is); apart = c.requires.apart; from = omega (arith, width_of g.F.Field.element c.self.inside.numbers c.args.self.now c.self.view_is) }
-
 pub invariant_of-self : goal.invariant_of-self
 invariant_of-self g c =
     let r = c.self.inside.numbers in

@@ -11,10 +11,3 @@ loop-i-preserved c =
     let l = length-cut r.count r.width r.bytes.items in
     c.in_ok-push.ensures.items
     ∙ images_more (λ (r : List ℕ). get_or r c.args.j 0) c.args.out.now.items (table r).rows c.loop-i.i [] c.loop-i.out.items c.get.result (omega arith) c.loop-i.invariant c.get.ensures
-
-pub returns : goal.returns
-returns c =
-    let r = c.args.self.now in
-    let l = length-cut r.count r.width r.bytes.items in
-    c.loop-i.invariant
-    ∙ ap (λ (rows : List (List ℕ)). c.args.out.now.items ++ map (λ (r : List ℕ). get_or r c.args.j 0) rows) (take_all c.loop-i.i (table r).rows (omega arith))

@@ -1,0 +1,24 @@
+-- What holds of the rows in memory, in the form that the search takes.
+use Rattle.std.proofs.Common.{◌≡◌, ℕ, ◌+◌, ◌*◌, ◌<◌, ◌≤◌, List, [], ◌∷◌, ◌++◌, length, get_or, set, take, replicate, sym}
+use Rattle.std.proofs.lemmas.List.{length-map, take_all, with_items_is, append-nil, get_or-take, get_or-drop}
+use borrow.Rule.Slice.PartMut.{put_mid}
+use Rattle.sc_matrix.specs.Layout.{cut}
+use Rattle.sc_matrix.proofs.LayoutLaws.{length-cut, get_or-cut, cut-set, cut-put_mid, cut-take, cut-push, cut-replicate, length-put_mid, row_within, vectors-cut}
+
+module _ {A : Type 0} (n c : ℕ) (xs : List A) where
+  pub row_put : (a : ℕ) (ys : List A) → length xs ≡ n * c → a < n → length ys ≡ c → set (cut n c xs) a ys ≡ cut n c (put_mid (a * c) c xs ys)
+  row_put a ys e h f = sym (cut-put_mid n c xs a ys e h f)
+
+  pub entry_set : (i j : ℕ) (v : A) → i < n → j < c → set (cut n c xs) i (set (get_or (cut n c xs) i []) j v) ≡ cut n c (set xs (i * c + j) v)
+  entry_set i j v h k = sym (cut-set n c xs i j v h k)
+
+  pub rows_kept : (k : ℕ) → k ≤ n → take k (cut n c xs) ≡ cut k c (take (k * c) xs)
+  rows_kept k h = sym (cut-take n k c xs h)
+
+  pub row_pushed : (ys : List A) → length xs ≡ n * c → length ys ≡ c → cut n c xs ++ ys ∷ [] ≡ cut (n + 1) c (xs ++ ys)
+  row_pushed ys e f = sym (cut-push n c xs ys e f)
+
+pub rows_filled : {A : Type 0} (n c : ℕ) (z : A) → replicate n (replicate c z) ≡ cut n c (replicate (n * c) z)
+rows_filled n c z = sym (cut-replicate n c z)
+
+pub ruleset rows_steps = (row_put, entry_set, rows_kept, row_pushed, rows_filled, get_or-cut, length-cut, length-put_mid, with_items_is, take_all, get_or-take, get_or-drop)
