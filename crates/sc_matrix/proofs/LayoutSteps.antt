@@ -1,6 +1,8 @@
 -- What holds of the rows in memory, in the form that the search takes.
-use Rattle.std.proofs.Common.{◌≡◌, ℕ, ◌+◌, ◌*◌, ◌<◌, ◌≤◌, List, [], ◌∷◌, ◌++◌, length, get_or, set, take, replicate, sym}
-use Rattle.std.proofs.lemmas.List.{length-map, take_all, with_items_is, append-nil, get_or-take, get_or-drop}
+use Rattle.std.proofs.Common.{◌≡◌, ℕ, ◌+◌, ◌*◌, ◌<◌, ◌≤◌, List, [], ◌∷◌, ◌++◌, length, get_or, set, take, map, replicate, ap, sym, ◌∙◌}
+use Rattle.std.proofs.lemmas.List.{length-map, take_all, with_items_is, append-nil, get_or-take, get_or-drop, map_push, map_more, take-map, length-append, append_assoc}
+use Rattle.std.proofs.lemmas.List.FromFn.{length-range_with_len, get_or-range_with_len}
+use Rattle.std.proofs.lemmas.Grind.{take_at_read}
 use borrow.Rule.Slice.PartMut.{put_mid}
 use Rattle.sc_matrix.specs.Layout.{cut}
 use Rattle.sc_matrix.proofs.LayoutLaws.{length-cut, get_or-cut, cut-set, cut-put_mid, cut-take, cut-push, cut-replicate, length-put_mid, row_within, vectors-cut}
@@ -21,4 +23,8 @@ module _ {A : Type 0} (n c : ℕ) (xs : List A) where
 pub rows_filled : {A : Type 0} (n c : ℕ) (z : A) → replicate n (replicate c z) ≡ cut n c (replicate (n * c) z)
 rows_filled n c z = sym (cut-replicate n c z)
 
-pub ruleset rows_steps = (row_put, entry_set, rows_kept, row_pushed, rows_filled, get_or-cut, length-cut, length-put_mid, with_items_is, take_all, get_or-take, get_or-drop)
+-- the image of one entry more
+pub mapped_more : {X : Type 0} (f : ℕ → X) (ks : List ℕ) (n : ℕ) → n < length ks → take (n + 1) (map f ks) ≡ take n (map f ks) ++ f (get_or ks n 0) ∷ []
+mapped_more f ks n h = take-map f (n + 1) ks ∙ map_more f ks n 0 h ∙ ap (λ ys. ys ++ f (get_or ks n 0) ∷ []) (sym (take-map f n ks))
+
+pub ruleset rows_steps = (mapped_more, length-map, length-append, get_or-range_with_len, length-range_with_len, take_at_read, map_push, append_assoc, row_put, entry_set, rows_kept, row_pushed, rows_filled, get_or-cut, length-cut, length-put_mid, with_items_is, take_all, get_or-take, get_or-drop)
