@@ -28,6 +28,7 @@ pub mod LawRecords
 pub mod NumberLaws
 pub mod EqualLaws
 pub mod LayoutLaws
+pub mod LayoutSteps
 pub mod ByteSteps
 pub mod MatrixSteps
-pub mod LayoutSteps
+
