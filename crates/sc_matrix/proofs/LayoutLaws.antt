@@ -136,9 +136,6 @@ module _ {A : Type 0} where
   entry_part n c xs z i j s e h k =
       rw (e, get_or-cut n c xs i [] h, get_or-take c (drop (i * c) xs) j z k) (sym (get_or-drop (i * c) xs j z))
 
-  pub entry_written : (n c : ℕ) (xs : List A) (i j s : ℕ) (x : A) → s ≡ i * c → i < n → j < c → cut n c (set xs (s + j) x) ≡ set (cut n c xs) i (set (get_or (cut n c xs) i []) j x)
-  entry_written n c xs i j s x e h k = rw e (cut-set n c xs i j x h k)
-
   pub length-put_mid : (a k : ℕ) (xs ys : List A) → a + k ≤ length xs → length ys ≡ k → length (put_mid a k xs ys) ≡ length xs
   length-put_mid a k xs ys h e =
       let t : length (take a xs) ≡ a = length-take-le a xs (omega arith) in
@@ -150,12 +147,3 @@ module _ {A : Type 0} where
   -- the items of a `Vec` whose slice has been written
   pub items_written : {Z : Type 0} (v : Vec A Z) (zs : List A) → length zs ≡ length v.items → (with_items v zs).items ≡ zs
   items_written v zs l = with_items_is v zs (l ∙ sym v.ok.0)
-
-  -- a write of the whole row
-  pub row_written : {Z : Type 0} (n c : ℕ) (v : Vec A Z) (xs : List A) (i s : ℕ) (ys : List A) → xs ≡ v.items → length v.items ≡ n * c → s ≡ i * c → i < n → length ys ≡ c
-      → cut n c (with_items v (put_mid s ((s + c) - s) xs ys)).items ≡ set (cut n c v.items) i ys
-  row_written n c v xs i s ys same l e h w =
-      let k : (s + c) - s ≡ c = omega arith in
-      let f = row_within n c i h in
-      let m : length (put_mid (i * c) c v.items ys) ≡ length v.items = length-put_mid (i * c) c v.items ys (omega arith) w in
-      rw (k, e, same, items_written v (put_mid (i * c) c v.items ys) m) (cut-put_mid n c v.items i ys l h w)

@@ -4,7 +4,7 @@ use Rattle.std.proofs.lemmas.List.{map-set, take-map, map_push, length-map}
 use Rattle.std.proofs.lemmas.Grind.{common_steps}
 use Rattle.std.proofs.Math.ListN.{get_or-map}
 use Rattle.sc_matrix.proofs.LayoutLaws.{length-cut}
-use Rattle.sc_matrix.proofs.MatrixLaws.{IsMatrix-with_row, IsMatrix-first_rows, IsMatrix-swap_rows, map-replicate}
+use Rattle.sc_matrix.proofs.MatrixLaws.{All-swap, map-replicate}
 
 pub map-swap : {A B : Type 0} (f : A → B) (xs : List A) (a b : ℕ) → map f (swap xs a b) ≡ swap (map f xs) a b
 map-swap f [] a b = refl
@@ -18,4 +18,4 @@ map-swap f (x ∷ xs) a b =
 pub map-row : {A B : Type 0} (f : A → B) (rows : List (List A)) (i : ℕ) → get_or (map (map f) rows) i [] ≡ map f (get_or rows i [])
 map-row f rows i = get_or-map (map f) rows i []
 
-pub ruleset matrix_steps = (common_steps, map-set, take-map, map_push, map-replicate, length-map, length-cut, map-row, map-swap, IsMatrix-first_rows, IsMatrix-with_row, IsMatrix-swap_rows)
+pub ruleset matrix_steps = (common_steps, map-set, take-map, map_push, map-replicate, length-map, length-cut, map-row, map-swap, All-swap)

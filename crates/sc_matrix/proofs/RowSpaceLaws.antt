@@ -14,7 +14,7 @@ use Rattle.sc_matrix.specs.RowSpace.{IsSubspace, IsInRowSpace, RowsAreIn, HaveOn
 use Rattle.sc_matrix.proofs.VectorLaws.{head, tail, vector_of, entry_at, length-add_vectors, get_or-add_vectors, length-scale_vector, get_or-scale_vector}
 use Rattle.sc_matrix.proofs.ModuleLaws.{dot_zero_left, dot_zero_right, dot-add_left, dot-scale_left, dot_unit, inv_times, plus_times_back, times_none}
 use Rattle.sc_matrix.proofs.Modules.{field_module, vector_module, dot-combination}
-use Rattle.sc_matrix.proofs.MatrixLaws.{matrix_rows, IsMatrix-with_row, IsMatrix-swap_rows}
+use Rattle.sc_matrix.proofs.MatrixLaws.{matrix_rows, All-swap, IsMatrix-with_row, IsMatrix-swap_rows}
 use Rattle.sc_matrix.proofs.ProductLaws.{same_matrix, IsVector-unit, apply-add_vectors, apply-scale_vector, apply_zero_vector}
 
 -- ---- two entries exchanged, and exchanged again
@@ -193,13 +193,8 @@ module _ {A : Type 0} {IsElement : A → Type 0} {zero one : A} {add sub mul : A
   replaced : (m : Matrix A) (a : ℕ) (v : List A) → IsMatrix IsElement m → RowSpace m v → RowsAreIn IsElement zero add mul (with_row m a v) m
   replaced m a v hm hv = record { cols = refl; rows = All-set (RowSpace m) m.rows a v hv (all_rows_in m hm) }
 
-  swapped : (m : Matrix A) (a b : ℕ) → IsMatrix IsElement m → a < row_count m → b < row_count m → RowsAreIn IsElement zero add mul (swap_rows m a b) m
-  swapped m a b hm ha hb = record {
-    cols = refl;
-    rows =
-        subst (All (RowSpace m)) (swap_is m.rows a b [] ha hb)
-        (All-set (RowSpace m) (set m.rows a (row m b)) b (row m a) (row-in_row_space m a hm ha) (All-set (RowSpace m) m.rows a (row m b) (row-in_row_space m b hm hb) (all_rows_in m hm)));
-  }
+  swapped : (m : Matrix A) (a b : ℕ) → IsMatrix IsElement m → RowsAreIn IsElement zero add mul (swap_rows m a b) m
+  swapped m a b hm = record { cols = refl; rows = All-swap (RowSpace m) m.rows a b (all_rows_in m hm) }
 
   scaled : (m : Matrix A) (a : ℕ) (c : A) → IsMatrix IsElement m → IsElement c → a < row_count m → RowsAreIn IsElement zero add mul (scale_row mul m a c) m
   scaled m a c hm hc ha = replaced m a _ hm ((row_space_subspace m hm).has_times c (row m a) hc (row-in_row_space m a hm ha))
@@ -274,14 +269,12 @@ module _ {A : Type 0} {IsElement : A → Type 0} {zero one : A} {add sub mul : A
 
   -- so each keeps the row space
   pub row_space-swap_rows : (m : Matrix A) (a b : ℕ) → IsMatrix IsElement m → a < row_count m → b < row_count m → HaveOneRowSpace IsElement zero add mul (swap_rows m a b) m
-  row_space-swap_rows m a b hm ha hb =
-      let n = length-swap m.rows a b in
-      record {
-        first_in = swapped m a b hm ha hb;
-        second_in =
-            subst (λ (k : Matrix A). RowsAreIn IsElement zero add mul k (swap_rows m a b)) (swap_rows-swap_rows m a b ha hb)
-            (swapped (swap_rows m a b) a b (IsMatrix-swap_rows m a b ha hb hm) (omega arith) (omega arith));
-      }
+  row_space-swap_rows m a b hm ha hb = record {
+    first_in = swapped m a b hm;
+    second_in =
+        subst (λ (k : Matrix A). RowsAreIn IsElement zero add mul k (swap_rows m a b)) (swap_rows-swap_rows m a b ha hb)
+        (swapped (swap_rows m a b) a b (IsMatrix-swap_rows m a b hm));
+  }
 
   pub row_space-scale_row : (m : Matrix A) (a : ℕ) (c : A) → IsMatrix IsElement m → IsElement c → c ≢ zero → a < row_count m → HaveOneRowSpace IsElement zero add mul (scale_row mul m a c) m
   row_space-scale_row m a c hm hc ne ha =

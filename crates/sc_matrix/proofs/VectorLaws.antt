@@ -79,6 +79,10 @@ pub map-map : {A B C : Type 0} (f : B → C) (g : A → B) (xs : List A) → map
 map-map f g [] = refl
 map-map {C = C} f g (x ∷ xs) = ap (λ (ys : List C). f (g x) ∷ ys) (map-map f g xs)
 
+pub map_ext : {A B : Type 0} (f g : A → B) (xs : List A) → ((x : A) → f x ≡ g x) → map f xs ≡ map g xs
+map_ext f g [] each = refl
+map_ext {B = B} f g (x ∷ xs) each = ap₂ (λ (y : B) (ys : List B). y ∷ ys) (each x) (map_ext f g xs each)
+
 -- ---- lengths and entries
 module _ {A : Type 0} where
   pub length-add_vectors : (add : A → A → A) (xs ys : List A) → length xs ≡ length ys → length (add_vectors add xs ys) ≡ length xs
