@@ -108,21 +108,8 @@ vectors_none_left-bytes (suc n) [] e = absurd (omega arith)
 vectors_none_left-bytes naught (v ∷ vs) e = absurd (omega arith)
 vectors_none_left-bytes (suc n) (v ∷ vs) e = ap₂ (λ (x : ℕ) (xs : List ℕ). x ∷ xs) (xor_zero_l v) (vectors_none_left-bytes n vs (omega arith))
 
-vectors_assoc-bytes : (us vs ws : List ℕ) → add_vectors bit_xor (add_vectors bit_xor us vs) ws ≡ add_vectors bit_xor us (add_vectors bit_xor vs ws)
+pub vectors_assoc-bytes : (us vs ws : List ℕ) → add_vectors bit_xor (add_vectors bit_xor us vs) ws ≡ add_vectors bit_xor us (add_vectors bit_xor vs ws)
 vectors_assoc-bytes [] vs ws = refl
 vectors_assoc-bytes (u ∷ us) [] ws = refl
 vectors_assoc-bytes (u ∷ us) (v ∷ vs) [] = refl
 vectors_assoc-bytes (u ∷ us) (v ∷ vs) (w ∷ ws) = ap₂ (λ (x : ℕ) (xs : List ℕ). x ∷ xs) (xor_assoc u v w) (vectors_assoc-bytes us vs ws)
-
-module _ {A : Type 0} {IsElement : A → Type 0} {zero one : A} {add sub mul : A → A → A} {inv : A → A} {act : A → ℕ → ℕ} (laws : IsField IsElement zero one add sub mul inv) (action : IsAction IsElement zero one add mul act) where
-  -- one row more of a combination of rows of bytes that is added to xs
-  pub combination_more : {p q : ℕ} (n : ℕ) (xs : List ℕ) (cs : List A) (vs : List (List ℕ)) (k : ℕ) → IsVector IsElement p cs → IsVector (IsVector IsByte n) q vs → k < p → k < q
-      → add_vectors bit_xor (add_vectors bit_xor xs (combination 0 bit_xor act n (take k cs) (take k vs))) (scale_vector act (get_or cs k zero) (get_or vs k []))
-      ≡ add_vectors bit_xor xs (combination 0 bit_xor act n (take (k + 1) cs) (take (k + 1) vs))
-  combination_more {q = q} n xs cs vs k hc hv h l =
-      let wv = hv.width in
-      let same : get_or vs k [] ≡ get_or vs k (replicate n 0) = get_or_default vs k [] (replicate n 0) (omega arith) in
-      vectors_assoc-bytes xs (combination 0 bit_xor act n (take k cs) (take k vs)) (scale_vector act (get_or cs k zero) (get_or vs k []))
-      ∙ ap (add_vectors bit_xor xs)
-      (ap (λ (v : List ℕ). add_vectors bit_xor (combination 0 bit_xor act n (take k cs) (take k vs)) (scale_vector act (get_or cs k zero) v)) same
-      ∙ sym (dot_more laws (vector_module (byte_module action) n) cs vs k hc hv h l))

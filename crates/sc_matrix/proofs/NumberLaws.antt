@@ -2,8 +2,8 @@
 -- come first: under a bound `F: Field` they are `g.met.F.Field.field`, `.action`, `.numbered` and `.by_number`.
 use Rattle.std.proofs.Common.{◌≡◌, ◌↔◌, ℕ, ◌<◌, ◌≤◌, ◌+◌, List, [], ◌∷◌, ◌++◌, All, Option, None, Some, MatchOption, length, get_or, map, take, drop, replicate, bit_xor, refl, sym, ◌∙◌, ap, ap₂, subst, arith}
 use Rattle.std.specs.Int.Bits.{xor_zero_r}
-use Rattle.std.proofs.lemmas.List.{map-append, take-map, drop-map, take_more, take_all, length-take-le, length-map, length-replicate, get_or-map, get_or-replicate, ext_get_or}
-use Rattle.std.proofs.lemmas.List.Elements.{All-map, All-nil, All-same, All-push}
+use Rattle.std.proofs.lemmas.List.{map-append, take-map, drop-map, drop_all, take_all, length-map, length-replicate, get_or-map, get_or-replicate, ext_get_or}
+use Rattle.std.proofs.lemmas.List.Elements.{All-same}
 use Rattle.sc_field.specs.Field.{IsField, IsAction, IsNumbered, IsNumber}
 use Rattle.sc_field.specs.ActionLemmas.{is_number, is_number_xor, is_number_act, element_xor, element_act}
 use Rattle.sc_matrix.specs.Module.{IsModule, IsLinear}
@@ -16,7 +16,7 @@ use Rattle.sc_matrix.specs.declared.rows.Rows.{Rows}
 use Rattle.sc_matrix.proofs.VectorLaws.{map-map, map_same, map_const, map-add_vectors, IsVector-map, IsVector-append, IsVector-take, IsVector-drop, IsVector-replicate, IsVector-add_vectors, vector_of}
 use Rattle.sc_matrix.proofs.MatrixLaws.{matrix_rows, IsMatrix-map, IsMatrix-with_row, IsMatrix-transpose, IsMatrix-submatrix, row_count-map, row-map, map-with_row, map-transpose, map-submatrix, get_or-map_all}
 use Rattle.sc_matrix.proofs.ProductLaws.{IsMatrix-product}
-use Rattle.sc_matrix.proofs.ModuleLaws.{linear-dot, value-dot, dot_comm, dot-append}
+use Rattle.sc_matrix.proofs.ModuleLaws.{linear-dot, value-dot, dot_comm}
 use Rattle.sc_matrix.proofs.Modules.{byte_module, vector_module}
 use Rattle.sc_matrix.proofs.LayoutLaws.{length-cut}
 
@@ -183,34 +183,9 @@ module _ {A : Type 0} {IsElement : A → Type 0} {zero one : A} {add sub mul : A
     linear-dot laws number_module element_linear v ns hv hn ∙ dot_comm laws v (map element ns) hv (IsVector-map element ns (λ m h. h.is_element) hn),
   )
 
-  -- what a loop knows that sums the products of the first n entries
-  pub record DotSoFar (v : List A) (ns : List ℕ) (n : ℕ) (total : ℕ) : Type 0 where
-    pub first : All IsElement (take n v)
-    pub value : total ≡ dot 0 bit_xor act (take n v) (take n ns)
-
-  pub DotSoFar-none : (v : List A) (ns : List ℕ) → DotSoFar v ns 0 0
-  DotSoFar-none v ns = record { first = All-nil IsElement; value = refl }
-
-  pub DotSoFar-more : (v : List A) (ns : List ℕ) (n total : ℕ) (x : A) → n < length v → length v ≡ length ns → All Number ns → IsElement x → x ≡ get_or v n x → DotSoFar v ns n total
-      → DotSoFar v ns (n + 1) (bit_xor total (act x (get_or ns n 0)))
-  DotSoFar-more v ns n total x h l hn hx is so_far =
-      let k : ℕ = get_or ns n 0 in
-      let tv : take (n + 1) v ≡ take n v ++ x ∷ [] = take_more v n x h ∙ ap (λ (y : A). take n v ++ y ∷ []) (sym is) in
-      let tn : take (n + 1) ns ≡ take n ns ++ k ∷ [] = take_more ns n 0 (omega arith) in
-      let pv : IsVector IsElement n (take n v) = record { width = length-take-le n v (omega arith); entries = so_far.first } in
-      let pn : IsVector Number n (take n ns) = IsVector-take n ns (vector_of ns hn) (omega arith) in
-      let hk : Number k = hn n 0 (omega arith) in
-      record {
-        first = All-same IsElement _ _ tv (All-push IsElement (take n v) x so_far.first hx);
-        value =
-            ap₂ bit_xor so_far.value (sym (xor_zero_r (act x k)))
-            ∙ sym (dot-append laws number_module (take n v) (x ∷ []) (take n ns) (k ∷ []) (pv.width ∙ sym pn.width) pv (IsVector-replicate 1 x hx) pn (IsVector-replicate 1 k hk))
-            ∙ sym (ap₂ (dot 0 bit_xor act) tv tn);
-      }
-
-  pub DotSoFar-all : (v : List A) (ns : List ℕ) (n total : ℕ) → length v ≤ n → length v ≡ length ns → All Number ns → DotSoFar v ns n total → Number total × (element total ≡ dot zero add mul (map element ns) v)
-  DotSoFar-all v ns n total h l hn so_far =
-      let hv : All IsElement v = All-same IsElement _ _ (sym (take_all n v h)) so_far.first in
-      let d = numbers-dot v ns (vector_of v hv) (vector_of ns hn) in
-      let e : total ≡ dot 0 bit_xor act v ns = so_far.value ∙ ap₂ (dot 0 bit_xor act) (take_all n v h) (take_all n ns (omega arith)) in
-      rw e d
+  -- what a loop has that summed the products of all entries
+  pub dot_summed : (v : List A) (ns : List ℕ) (n total : ℕ) → length v ≤ n → length v ≡ length ns → All Number ns → All IsElement (take n v)
+      → dot 0 bit_xor act v ns ≡ bit_xor total (dot 0 bit_xor act (drop n v) (drop n ns)) → Number total × (element total ≡ dot zero add mul (map element ns) v)
+  dot_summed v ns n total h l hn hv e =
+      let rest : bit_xor total (dot 0 bit_xor act (drop n v) (drop n ns)) ≡ total = rw (drop_all n v h) (xor_zero_r total) in
+      rw (← (e ∙ rest)) (numbers-dot v ns (vector_of v (All-same IsElement _ _ (sym (take_all n v h)) hv)) (vector_of ns hn))

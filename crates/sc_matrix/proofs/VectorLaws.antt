@@ -1,6 +1,6 @@
 -- Vectors under any operations: their lengths, their entries, and maps of them.
 use Rattle.std.proofs.Common.{◌≡◌, ℕ, zero as none, suc, ◌+◌, ◌-◌, ◌<◌, ◌≤◌, List, [], ◌∷◌, ◌++◌, length, get_or, set, map, take, drop, replicate, All, refl, sym, ◌∙◌, ap, ap₂, arith}
-use Rattle.std.proofs.lemmas.List.{length-map, length-replicate, length-append, length-take-le, length-drop, length-set, get_or-map, get_or-replicate}
+use Rattle.std.proofs.lemmas.List.{drop_more, length-map, length-replicate, length-append, length-take-le, length-drop, length-set, get_or-map, get_or-replicate}
 use Rattle.std.proofs.lemmas.List.Elements.{All-nil, All-head, All-tail, All-cons, All-map, All-replicate, All-append, All-take, All-drop, All-set}
 use Rattle.sc_matrix.specs.Vector.{IsVector, add_vectors, scale_vector, dot, combination}
 
@@ -102,7 +102,11 @@ module _ {A : Type 0} where
   pub get_or-scale_vector : {C : Type 0} (mul : C → A → A) (c : C) (xs : List A) (i : ℕ) (d : A) → i < length xs → get_or (scale_vector mul c xs) i d ≡ mul c (get_or xs i d)
   get_or-scale_vector mul c xs i d h = get_or-map (mul c) xs i d d h
 
-  -- places before and behind
+  -- the term at place k and those behind it
+  pub dot_next : {C : Type 0} (zero : A) (add : A → A → A) (mul : C → A → A) (cs : List C) (vs : List A) (k : ℕ) (d : C) (e : A) → k < length cs → k < length vs
+      → dot zero add mul (drop k cs) (drop k vs) ≡ add (mul (get_or cs k d) (get_or vs k e)) (dot zero add mul (drop (k + 1) cs) (drop (k + 1) vs))
+  dot_next zero add mul cs vs k d e h l = ap₂ (dot zero add mul) (drop_more cs k d h) (drop_more vs k e l)
+
   pub dot_nil_right : {C : Type 0} (zero : A) (add : A → A → A) (mul : C → A → A) (cs : List C) → dot zero add mul cs [] ≡ zero
   dot_nil_right zero add mul [] = refl
   dot_nil_right zero add mul (c ∷ cs) = refl
