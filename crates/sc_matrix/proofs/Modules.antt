@@ -44,17 +44,14 @@ byte_module action = record {
 -- ---- vectors of n values of a module
 module _ {C A : Type 0} {IsElement : C → Type 0} {zero one : C} {add mul : C → C → C} {IsValue : A → Type 0} {none : A} {plus : A → A → A} {times : C → A → A} (ml : IsModule IsElement zero one add mul IsValue none plus times) where
   vectors_comm : (us vs : List A) {n : ℕ} → IsVector IsValue n us → IsVector IsValue n vs → add_vectors plus us vs ≡ add_vectors plus vs us
-  vectors_comm [] [] hu hv = refl
-  vectors_comm [] (v ∷ vs) hu hv = refl
-  vectors_comm (u ∷ us) [] hu hv = refl
   vectors_comm (u ∷ us) (v ∷ vs) hu hv = ap₂ (λ (x : A) (xs : List A). x ∷ xs) (ml.plus_comm u v (head hu) (head hv)) (vectors_comm us vs (tail hu) (tail hv))
+  vectors_comm [] [] hu hv = refl
+  vectors_comm us vs hu hv = absurd (omega (arith, hu.width, hv.width))
 
   vectors_assoc : (us vs ws : List A) {n : ℕ} → IsVector IsValue n us → IsVector IsValue n vs → IsVector IsValue n ws → add_vectors plus (add_vectors plus us vs) ws ≡ add_vectors plus us (add_vectors plus vs ws)
-  vectors_assoc [] vs ws hu hv hw = refl
-  vectors_assoc (u ∷ us) [] ws hu hv hw = refl
-  vectors_assoc (u ∷ us) (v ∷ vs) [] hu hv hw = refl
   vectors_assoc (u ∷ us) (v ∷ vs) (w ∷ ws) hu hv hw =
       ap₂ (λ (x : A) (xs : List A). x ∷ xs) (ml.plus_assoc u v w (head hu) (head hv) (head hw)) (vectors_assoc us vs ws (tail hu) (tail hv) (tail hw))
+  vectors_assoc us vs ws hu hv hw = refl
 
   vectors_none : (n : ℕ) (vs : List A) → IsVector IsValue n vs → add_vectors plus vs (replicate n none) ≡ vs
   vectors_none n [] hv = refl
@@ -104,12 +101,9 @@ vectors_none-bytes (suc n) (v ∷ vs) e = ap₂ (λ (x : ℕ) (xs : List ℕ). x
 
 pub vectors_none_left-bytes : (n : ℕ) (vs : List ℕ) → length vs ≡ n → add_vectors bit_xor (replicate n 0) vs ≡ vs
 vectors_none_left-bytes naught [] e = refl
-vectors_none_left-bytes (suc n) [] e = absurd (omega arith)
-vectors_none_left-bytes naught (v ∷ vs) e = absurd (omega arith)
 vectors_none_left-bytes (suc n) (v ∷ vs) e = ap₂ (λ (x : ℕ) (xs : List ℕ). x ∷ xs) (xor_zero_l v) (vectors_none_left-bytes n vs (omega arith))
+vectors_none_left-bytes n vs e = absurd (omega arith)
 
 pub vectors_assoc-bytes : (us vs ws : List ℕ) → add_vectors bit_xor (add_vectors bit_xor us vs) ws ≡ add_vectors bit_xor us (add_vectors bit_xor vs ws)
-vectors_assoc-bytes [] vs ws = refl
-vectors_assoc-bytes (u ∷ us) [] ws = refl
-vectors_assoc-bytes (u ∷ us) (v ∷ vs) [] = refl
 vectors_assoc-bytes (u ∷ us) (v ∷ vs) (w ∷ ws) = ap₂ (λ (x : ℕ) (xs : List ℕ). x ∷ xs) (xor_assoc u v w) (vectors_assoc-bytes us vs ws)
+vectors_assoc-bytes us vs ws = refl
