@@ -12,7 +12,7 @@ use Rattle.sc_matrix.specs.Module.{IsModule}
 use Rattle.sc_matrix.specs.Vector.{IsVector, add_vectors, scale_vector, dot, combination, unit_vector}
 use Rattle.sc_matrix.specs.Matrix.{Matrix, IsMatrix, IsInKernel, row, row_count, with_row, apply, swap_rows, scale_row, add_row, add_row_from, entry, stacked}
 use Rattle.sc_matrix.specs.RowSpace.{IsSubspace, IsInRowSpace, RowsAreIn, HaveOneRowSpace}
-use Rattle.sc_matrix.proofs.VectorLaws.{head, tail, vector_of, entry_at, length-add_vectors, get_or-add_vectors, length-scale_vector, get_or-scale_vector}
+use Rattle.sc_matrix.proofs.VectorLaws.{map_const, head, tail, vector_of, entry_at, length-add_vectors, get_or-add_vectors, length-scale_vector, get_or-scale_vector}
 use Rattle.sc_matrix.proofs.ModuleLaws.{dot_zero_left, dot_zero_right, dot-add_left, dot-scale_left, dot_unit, inv_times, plus_times_back, times_none}
 use Rattle.sc_matrix.proofs.Modules.{field_module, vector_module, dot-combination}
 use Rattle.sc_matrix.proofs.MatrixLaws.{matrix_rows, All-swap, IsMatrix-with_row, IsMatrix-swap_rows}
@@ -43,13 +43,7 @@ module _ {C A : Type 0} (none : A) (plus : A → A → A) (times : C → A → A
     λ e k d h.
         sym (get_or-map (λ (r : List C). dot none plus times r v) m.rows k d none h) ∙ ap (λ (w : List A). get_or w k none) e
         ∙ get_or-replicate (row_count m) k none none h,
-    λ all.
-        let n = length-map m.rows (λ (r : List C). dot none plus times r v) in
-        let l = length-replicate (row_count m) none in
-        ext_get_or none (apply none plus times m v) (replicate (row_count m) none) (n ∙ sym l)
-        (λ k q.
-        let h : k < row_count m = omega arith in
-        get_or-map (λ (r : List C). dot none plus times r v) m.rows k [] none h ∙ all k [] h ∙ sym (get_or-replicate (row_count m) k none none h)),
+    λ all. map_const (λ (r : List C). dot none plus times r v) none m.rows (λ r e. e) (vector_of m.rows all),
   )
 
   -- the kernel of stacked matrices is what their kernels have in common

@@ -1,16 +1,16 @@
 -- Laws of the transpose, by the entries of matrices.
-use Rattle.std.proofs.Common.{replicate, inl, inr, ◌≡◌, ℕ, ◌<◌, List, [], length, get_or, sym, ◌∙◌, ap, ap₂, arith}
-use Rattle.std.proofs.lemmas.Bool.{cases_eq}
-use Rattle.std.proofs.lemmas.List.{length-replicate, get_or-replicate, get_or-set_other, length-map, get_or-map, ext_get_or}
+use Rattle.std.proofs.Common.{replicate, refl, inl, inr, ◌≡◌, ℕ, ◌<◌, List, [], length, get_or, sym, ◌∙◌, ap, ap₂, arith}
+use Rattle.std.proofs.lemmas.Grind.{get_or-set_at}
+use Rattle.std.proofs.lemmas.List.{map-id, length-replicate, get_or-replicate, get_or-set_other, length-map, get_or-map, ext_get_or}
 use Rattle.std.proofs.lemmas.List.FromFn.{length-map-range_with_len, get_or-map-range_with_len}
 use Rattle.sc_field.specs.Field.{IsField}
 use Rattle.sc_matrix.specs.Vector.{unit_vector, IsVector, dot, combination}
 use Rattle.sc_matrix.specs.Matrix.{identity, Matrix, IsMatrix, row, row_count, entry, column, apply, transpose, product}
 use Rattle.sc_matrix.proofs.MatrixLaws.{matrix_rows, elements-column, IsMatrix-transpose}
-use Rattle.sc_matrix.proofs.VectorLaws.{length-combination, get_or-combination}
+use Rattle.sc_matrix.proofs.VectorLaws.{map_same, length-combination, get_or-combination}
 use Rattle.sc_matrix.proofs.ModuleLaws.{dot_comm}
 use Rattle.sc_matrix.proofs.Modules.{field_module}
-use Rattle.sc_matrix.proofs.ProductLaws.{product-identity_left, IsMatrix-identity, same_matrix, IsMatrix-product, entry-product}
+use Rattle.sc_matrix.proofs.ProductLaws.{apply-identity, IsMatrix-identity, same_matrix, IsMatrix-product, entry-product}
 
 module _ {A : Type 0} where
   -- two matrices of one size with the same entries are equal
@@ -96,12 +96,7 @@ module _ {A : Type 0} {IsElement : A → Type 0} {zero one : A} {add sub mul : A
   unit_turned : (n i j : ℕ) → i < n → j < n → get_or (unit_vector zero one n i) j zero ≡ get_or (unit_vector zero one n j) i zero
   unit_turned n i j h k =
       let l = length-replicate n zero in
-      elim (cases_eq i j) [
-        | inl same ↦ ap₂ (λ (a b : ℕ). get_or (unit_vector zero one n a) b zero) same (sym same)
-        | inr apart ↦
-            get_or-set_other (replicate n zero) i j one zero (λ e. apart (sym e)) ∙ get_or-replicate n j zero zero k
-            ∙ sym (get_or-set_other (replicate n zero) j i one zero apart ∙ get_or-replicate n i zero zero h)
-      ]
+      grind (arith, get_or-set_at, get_or-set_other (replicate n zero) i j one zero, get_or-set_other (replicate n zero) j i one zero, get_or-replicate n j zero zero k, get_or-replicate n i zero zero h)
 
   pub transpose-identity : (n : ℕ) → transpose zero (identity zero one n) ≡ identity zero one n
   transpose-identity n =
@@ -116,13 +111,10 @@ module _ {A : Type 0} {IsElement : A → Type 0} {zero one : A} {add sub mul : A
 
   pub product-identity_right : (a : Matrix A) → IsMatrix IsElement a → product zero add mul a (identity zero one a.cols) ≡ a
   product-identity_right a ha =
-      let n = a.cols in
-      let hi = IsMatrix-identity laws n in
-      let l : row_count (identity zero one n) ≡ n = length-map-range_with_len (unit_vector zero one n) 0 n in
-      let p = product zero add mul a (identity zero one n) in
-      let turned : transpose zero p ≡ transpose zero a =
-      transpose-product a (identity zero one n) ha hi (sym l) ∙ ap (λ (t : Matrix A). product zero add mul t (transpose zero a)) (transpose-identity n)
-      ∙ ap (λ (k : ℕ). product zero add mul (identity zero one k) (transpose zero a)) (sym (row_count-transpose zero a))
-      ∙ product-identity_left laws (field_module laws) (transpose zero a) (IsMatrix-transpose zero a ha) in
-      sym (transpose-transpose IsElement zero p (IsMatrix-product laws (field_module laws) a (identity zero one n) ha hi)) ∙ ap (transpose zero) turned
-      ∙ transpose-transpose IsElement zero a ha
+      let I = identity zero one a.cols in
+      let hi = IsMatrix-identity laws a.cols in
+      let l : row_count I ≡ a.cols = length-map-range_with_len (unit_vector zero one a.cols) 0 a.cols in
+      same_matrix (product zero add mul a I) a refl
+      (map_same (λ (r : List A). combination zero add mul a.cols r I.rows) (λ (r : List A). r) a.rows
+      (λ r hr. apply-transpose r I hi hr ∙ ap (λ (t : Matrix A). apply zero add mul t r) (transpose-identity a.cols) ∙ apply-identity laws (field_module laws) a.cols r hr)
+      (matrix_rows ha) ∙ map-id a.rows)
