@@ -1,5 +1,5 @@
 -- How the rows of a list that is cut into rows follow from the list.
-use Rattle.std.proofs.Common.{◌≡◌, ℕ, zero, suc, ◌+◌, ◌*◌, ◌<◌, ◌≤◌, List, [], ◌∷◌, ◌++◌, length, get_or, take, drop, set, replicate, All, refl, sym, ◌∙◌, ap, ◌-◌, ◌≢◌, inl, inr, arith, Vec}
+use Rattle.std.proofs.Common.{◌≡◌, ℕ, zero, suc, ◌+◌, ◌*◌, ◌<◌, ◌≤◌, List, [], ◌∷◌, ◌++◌, length, get_or, take, drop, set, replicate, All, refl, sym, ◌∙◌, ap, ap₂, ◌-◌, ◌≢◌, inl, inr, arith, Vec}
 use Rattle.std.proofs.lemmas.List.{drop-drop, length-take-le, length-drop, take-append-le, drop-append-le, drop-take, take-replicate, drop-replicate, ext_get_or, get_or-set_same, get_or-set_other, length-set, take_all, drop-set-lt, drop-set-add, take-set-le, take-take, nil_from_length, get_or-take, get_or-drop, length-append, with_items_is}
 use Rattle.std.proofs.lemmas.List.Elements.{All-take, All-drop}
 use Rattle.std.proofs.lemmas.Nat.{row_fits}
@@ -65,37 +65,20 @@ module _ {A : Type 0} where
       let d : drop c (replicate (suc n * c) z) ≡ replicate (n * c) z = drop-replicate c (suc n * c) z ∙ ap (λ k. replicate k z) m in
       rw (t, d, cut-replicate n c z) refl
 
-  -- row k of two lists that agree up to its end
-  same_row : (c p : ℕ) (xs ys : List A) → take (p + c) xs ≡ take (p + c) ys → take c (drop p xs) ≡ take c (drop p ys)
-  same_row c p xs ys e = sym (drop-take p c xs) ∙ ap (drop p) e ∙ drop-take p c ys
-
   -- two lists cut into rows, where ys has row r at a and the rows of xs before and behind
   cut_differs : (n c : ℕ) (xs ys : List A) (a : ℕ) (r : List A) → a < n → take (a * c) ys ≡ take (a * c) xs → take c (drop (a * c) ys) ≡ r → drop (a * c + c) ys ≡ drop (a * c + c) xs → cut n c ys ≡ set (cut n c xs) a r
-  cut_differs n c xs ys a r h below here above =
-      let g = length-cut n c ys in
-      let g' = length-cut n c xs in
-      ext_get_or [] _ _ (g ∙ sym (length-set (cut n c xs) a r ∙ g'))
-      (λ k q. elim (cases_order k a) [
-        | inl same ↦
-            rw same (rw (get_or-cut n c ys a [] h, here) (sym (get_or-set_same (cut n c xs) a r [] (omega arith))))
-        | inr other ↦ elim other [
-          | inl lt ↦
-              (let ne : k ≢ a = omega arith in
-              rw (get_or-cut n c ys k [] (omega arith), get_or-set_other (cut n c xs) a k r [] ne, get_or-cut n c xs k [] (omega arith))
-              (same_row c (k * c) ys xs
-              (sym (take-take (k * c + c) (a * c) ys (row_within a c k lt)) ∙ ap (take (k * c + c)) below
-              ∙ take-take (k * c + c) (a * c) xs (row_within a c k lt))))
-          | inr gt ↦
-              (let ne : k ≢ a = omega arith in
-              let w : a * c + c ≤ k * c = row_within k c a gt in
-              let e : (a * c + c) + (k * c - (a * c + c)) ≡ k * c = omega arith in
-              rw (get_or-cut n c ys k [] (omega arith), get_or-set_other (cut n c xs) a k r [] ne, get_or-cut n c xs k [] (omega arith))
-              (ap (take c)
-              (ap (λ m. drop m ys) (sym e) ∙ sym (drop-drop (k * c - (a * c + c)) (a * c + c) ys)
-              ∙ ap (drop (k * c - (a * c + c))) above ∙ drop-drop (k * c - (a * c + c)) (a * c + c) xs
-              ∙ ap (λ m. drop m xs) e)))
-        ]
-      ])
+  cut_differs zero c xs ys a r h below here above = absurd (omega arith)
+  cut_differs (suc n) c xs ys zero r h below here above =
+      let start : 0 * c ≡ 0 = omega arith in
+      let end : 0 * c + c ≡ c = omega arith in
+      ap₂ (λ (u : List A) (us : List (List A)). u ∷ us) (rw start at here) (ap (cut n c) (rw end at above))
+  cut_differs (suc n) c xs ys (suc a) r h below here above =
+      let start : suc a * c ≡ c + a * c = omega arith in
+      let end : suc a * c + c ≡ c + (a * c + c) = omega arith in
+      let first : take c ys ≡ take c xs = sym (take-take c (suc a * c) ys (omega arith)) ∙ ap (take c) below ∙ take-take c (suc a * c) xs (omega arith) in
+      let low : take (a * c) (drop c ys) ≡ take (a * c) (drop c xs) = sym (drop-take c (a * c) ys) ∙ ap (drop c) (rw start at below) ∙ drop-take c (a * c) xs in
+      let high : drop (a * c + c) (drop c ys) ≡ drop (a * c + c) (drop c xs) = drop-drop (a * c + c) c ys ∙ (rw end at above) ∙ sym (drop-drop (a * c + c) c xs) in
+      ap₂ (λ (u : List A) (us : List (List A)). u ∷ us) first (cut_differs n c (drop c xs) (drop c ys) a r (omega arith) low (ap (take c) (drop-drop (a * c) c ys) ∙ (rw start at here)) high)
 
   -- a write to row a
   pub cut-put_mid : (n c : ℕ) (xs : List A) (a : ℕ) (ys : List A) → length xs ≡ n * c → a < n → length ys ≡ c → cut n c (put_mid (a * c) c xs ys) ≡ set (cut n c xs) a ys

@@ -7,7 +7,7 @@ use Rattle.sc_field.specs.Field.{IsField, IsAction}
 use Rattle.sc_field.specs.FieldLemmas.{add_mul, zero_mul, one_mul}
 use Rattle.sc_matrix.specs.Module.{IsModule, IsLinear, IsByte}
 use Rattle.sc_matrix.specs.Vector.{IsVector, add_vectors, scale_vector, dot, combination}
-use Rattle.sc_matrix.proofs.VectorLaws.{head, tail, map_same, map_const, map-plus, map-map, map-add_vectors, IsVector-replicate, IsVector-add_vectors, IsVector-map}
+use Rattle.sc_matrix.proofs.VectorLaws.{add_vectors-none, head, tail, map_same, map_const, map-plus, map-map, map-add_vectors, IsVector-replicate, IsVector-add_vectors, IsVector-map}
 use Rattle.sc_matrix.proofs.ModuleLaws.{value-dot, linear-dot, dot_zero_left, dot-add_left, dot-scale_left, dot_more}
 
 module _ {A : Type 0} {IsElement : A → Type 0} {zero one : A} {add sub mul : A → A → A} {inv : A → A} (laws : IsField IsElement zero one add sub mul inv) where
@@ -53,13 +53,6 @@ module _ {C A : Type 0} {IsElement : C → Type 0} {zero one : C} {add mul : C �
       ap₂ (λ (x : A) (xs : List A). x ∷ xs) (ml.plus_assoc u v w (head hu) (head hv) (head hw)) (vectors_assoc us vs ws (tail hu) (tail hv) (tail hw))
   vectors_assoc us vs ws hu hv hw = refl
 
-  vectors_none : (n : ℕ) (vs : List A) → IsVector IsValue n vs → add_vectors plus vs (replicate n none) ≡ vs
-  vectors_none n [] hv = refl
-  vectors_none naught (v ∷ vs) hv = let w = hv.width in absurd (omega arith)
-  vectors_none (suc n) (v ∷ vs) hv =
-      let t : IsVector IsValue n vs = record { width = (let w = hv.width in omega arith); entries = (tail hv).entries } in
-      ap₂ (λ (x : A) (xs : List A). x ∷ xs) (ml.plus_none v (head hv)) (vectors_none n vs t)
-
   pub vector_module : (n : ℕ) → IsModule IsElement zero one add mul (IsVector IsValue n) (replicate n none) (add_vectors plus) (scale_vector times)
   vector_module n = record {
     none_value = IsVector-replicate n none ml.none_value;
@@ -67,7 +60,7 @@ module _ {C A : Type 0} {IsElement : C → Type 0} {zero one : C} {add mul : C �
     times_value = λ x v hx hv. IsVector-map (times x) v (λ y hy. ml.times_value x y hx hy) hv;
     plus_comm = λ u v hu hv. vectors_comm u v hu hv;
     plus_assoc = λ u v w hu hv hw. vectors_assoc u v w hu hv hw;
-    plus_none = λ v hv. vectors_none n v hv;
+    plus_none = λ v hv. add_vectors-none plus none v ml.plus_none hv;
     times_one = λ v hv. map_same (times one) (λ (y : A). y) v ml.times_one hv ∙ map-id v;
     times_zero = λ v hv. map_const (times zero) none v ml.times_zero hv;
     times_plus = λ x u v hx hu hv. map-add_vectors plus plus (times x) u v (λ a b ha hb. ml.times_plus x a b hx ha hb) hu hv;
@@ -95,9 +88,7 @@ module _ {C A : Type 0} {IsElement : C → Type 0} {zero one : C} {add sub mul :
 
 -- bytes alone: no premise on their size
 pub vectors_none-bytes : (n : ℕ) (vs : List ℕ) → length vs ≡ n → add_vectors bit_xor vs (replicate n 0) ≡ vs
-vectors_none-bytes n [] e = refl
-vectors_none-bytes naught (v ∷ vs) e = absurd (omega arith)
-vectors_none-bytes (suc n) (v ∷ vs) e = ap₂ (λ (x : ℕ) (xs : List ℕ). x ∷ xs) (xor_zero_r v) (vectors_none-bytes n vs (omega arith))
+vectors_none-bytes n vs e = add_vectors-none {P = λ (x : ℕ). Unit {0}} bit_xor 0 vs (λ v u. xor_zero_r v) (record { width = e; entries = λ k d h. tt })
 
 pub vectors_none_left-bytes : (n : ℕ) (vs : List ℕ) → length vs ≡ n → add_vectors bit_xor (replicate n 0) vs ≡ vs
 vectors_none_left-bytes naught [] e = refl

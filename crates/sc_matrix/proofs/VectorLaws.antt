@@ -56,12 +56,14 @@ module _ {A : Type 0} {P : A → Type 0} where
   map_same {B = B} f g (x ∷ xs) each h = ap₂ (λ (y : B) (ys : List B). y ∷ ys) (each x (head h)) (map_same f g xs each (tail h))
 
   pub map_const : {B : Type 0} (f : A → B) (y : B) (xs : List A) {n : ℕ} → ((x : A) → P x → f x ≡ y) → IsVector P n xs → map f xs ≡ replicate n y
-  map_const f y [] {n = none} each h = refl
-  map_const f y [] {n = suc n} each h = let w = h.width in absurd (omega arith)
-  map_const f y (x ∷ xs) {n = none} each h = let w = h.width in absurd (omega arith)
-  map_const {B = B} f y (x ∷ xs) {n = suc n} each h =
-      let t : IsVector P n xs = record { width = (let w = h.width in omega arith); entries = (tail h).entries } in
-      ap₂ (λ (z : B) (zs : List B). z ∷ zs) (each x (head h)) (map_const f y xs each t)
+  map_const f y [] each h = rw (← h.width) refl
+  map_const {B = B} f y (x ∷ xs) each h = rw (← h.width) (ap₂ (λ (z : B) (zs : List B). z ∷ zs) (each x (head h)) (map_const f y xs each (vector_of xs (tail h).entries)))
+
+  -- a sum with zeros
+  pub add_vectors-none : (plus : A → A → A) (zero : A) (xs : List A) {n : ℕ} → ((x : A) → P x → plus x zero ≡ x) → IsVector P n xs → add_vectors plus xs (replicate n zero) ≡ xs
+  add_vectors-none plus zero [] each h = refl
+  add_vectors-none plus zero (x ∷ xs) each h =
+      rw (← h.width) (ap₂ (λ (y : A) (ys : List A). y ∷ ys) (each x (head h)) (add_vectors-none plus zero xs each (vector_of xs (tail h).entries)))
 
   -- the sum of two maps
   pub map-plus : {B : Type 0} (plus : B → B → B) (f g h : A → B) (xs : List A) {n : ℕ} → ((x : A) → P x → f x ≡ plus (g x) (h x)) → IsVector P n xs → map f xs ≡ add_vectors plus (map g xs) (map h xs)
