@@ -2,12 +2,13 @@
 use Rattle.std.proofs.Common.{replicate, refl, inl, inr, ◌≡◌, ℕ, ◌<◌, List, [], length, get_or, sym, ◌∙◌, ap, ap₂, arith}
 use Rattle.std.proofs.lemmas.Grind.{get_or-set_at}
 use Rattle.std.proofs.lemmas.List.{map-id, length-replicate, get_or-replicate, get_or-set_other, length-map, get_or-map, ext_get_or}
-use Rattle.std.proofs.lemmas.List.FromFn.{length-map-range_with_len, get_or-map-range_with_len}
+use Rattle.std.specs.List.{range_with_len}
+use Rattle.std.proofs.lemmas.List.FromFn.{length-range_with_len, get_or-range_with_len, length-map-range_with_len, get_or-map-range_with_len}
 use Rattle.sc_field.specs.Field.{IsField}
 use Rattle.sc_matrix.specs.Vector.{unit_vector, IsVector, dot, combination}
 use Rattle.sc_matrix.specs.Matrix.{identity, Matrix, IsMatrix, row, row_count, entry, column, apply, transpose, product}
 use Rattle.sc_matrix.proofs.MatrixLaws.{matrix_rows, elements-column, IsMatrix-transpose}
-use Rattle.sc_matrix.proofs.VectorLaws.{map_same, length-combination, get_or-combination}
+use Rattle.sc_matrix.proofs.VectorLaws.{map_same, map_ext, map-map, length-combination, get_or-combination}
 use Rattle.sc_matrix.proofs.ModuleLaws.{dot_comm}
 use Rattle.sc_matrix.proofs.Modules.{field_module}
 use Rattle.sc_matrix.proofs.ProductLaws.{apply-identity, IsMatrix-identity, same_matrix, IsMatrix-product, entry-product}
@@ -22,6 +23,12 @@ module _ {A : Type 0} where
       let wa : length (row a i) ≡ a.cols = (ha.vectors i [] h).width in
       let wb : length (row b i) ≡ b.cols = (hb.vectors i [] (omega arith)).width in
       ext_get_or zero (row a i) (row b i) (wa ∙ e ∙ sym wb) (λ j k. same i j h (omega arith))))
+
+  -- the places of its columns
+  columns_of : (m : Matrix A) → IsVector (λ (j : ℕ). j < m.cols) m.cols (range_with_len 0 m.cols)
+  columns_of m =
+      let n = length-range_with_len 0 m.cols in
+      record { width = n; entries = λ k d h. let is = get_or-range_with_len 0 m.cols k d (omega arith) in omega arith }
 
   pub row_count-transpose : (zero : A) (m : Matrix A) → row_count (transpose zero m) ≡ m.cols
   row_count-transpose zero m = length-map-range_with_len (column zero m) 0 m.cols
@@ -44,42 +51,7 @@ module _ {A : Type 0} where
       entry-transpose zero (transpose zero m) j i (omega arith) (omega arith)
       ∙ entry-transpose zero m i j (omega arith) (omega arith))
 
-  -- column i of the transpose is row i
-  pub column-transpose : (P : A → Type 0) (zero : A) (m : Matrix A) (i : ℕ) → IsMatrix P m → i < row_count m → column zero (transpose zero m) i ≡ row m i
-  column-transpose P zero m i hm h =
-      let n = row_count-transpose zero m in
-      let l = length-map (transpose zero m).rows (λ (r : List A). get_or r i zero) in
-      let w : length (row m i) ≡ m.cols = (hm.vectors i [] h).width in
-      ext_get_or zero (column zero (transpose zero m) i) (row m i) (l ∙ n ∙ sym w)
-      (λ j k.
-      get_or-map (λ (r : List A). get_or r i zero) (transpose zero m).rows j [] zero (omega arith)
-      ∙ entry-transpose zero m i j h (omega arith))
-
 module _ {A : Type 0} {IsElement : A → Type 0} {zero one : A} {add sub mul : A → A → A} {inv : A → A} (laws : IsField IsElement zero one add sub mul inv) where
-  -- The transpose of a product is the product of the transposes in the other order.
-  pub transpose-product : (a b : Matrix A) → IsMatrix IsElement a → IsMatrix IsElement b → a.cols ≡ row_count b → transpose zero (product zero add mul a b) ≡ product zero add mul (transpose zero b) (transpose zero a)
-  transpose-product a b ha hb e =
-      let ta = IsMatrix-transpose zero a ha in
-      let tb = IsMatrix-transpose zero b hb in
-      let p = IsMatrix-product laws (field_module laws) a b ha hb in
-      let na = row_count-transpose zero a in
-      let nb = row_count-transpose zero b in
-      let np = row_count-transpose zero (product zero add mul a b) in
-      let rows : row_count (product zero add mul a b) ≡ row_count a = length-map a.rows _ in
-      let rows' : row_count (product zero add mul (transpose zero b) (transpose zero a)) ≡ row_count (transpose zero b) = length-map (transpose zero b).rows _ in
-      same_entries IsElement zero (transpose zero (product zero add mul a b)) (product zero add mul (transpose zero b) (transpose zero a))
-      (IsMatrix-transpose zero (product zero add mul a b) p) (IsMatrix-product laws (field_module laws) (transpose zero b) (transpose zero a) tb ta) rows (np ∙ sym (rows' ∙ nb))
-      (λ j i h k.
-      let hi : i < row_count a = omega arith in
-      let hj : j < b.cols = omega arith in
-      let i_in : i < row_count (product zero add mul a b) = omega arith in
-      let j_in : j < row_count (transpose zero b) = omega arith in
-      entry-transpose zero (product zero add mul a b) i j i_in hj
-      ∙ entry-product zero add mul a b i j hb hi hj
-      ∙ dot_comm laws (row a i) (column zero b j) (ha.vectors i [] hi) (elements-column zero b j hb hj)
-      ∙ ap₂ (dot zero add mul) (sym (row-transpose zero b j hj)) (sym (column-transpose IsElement zero a i ha hi))
-      ∙ sym (entry-product zero add mul (transpose zero b) (transpose zero a) j i ta j_in hi))
-
   -- a vector times a matrix is the transpose times the vector
   pub apply-transpose : {p : ℕ} (cs : List A) (m : Matrix A) → IsMatrix IsElement m → IsVector IsElement p cs → combination zero add mul m.cols cs m.rows ≡ apply zero add mul (transpose zero m) cs
   apply-transpose cs m hm hc =
@@ -91,6 +63,18 @@ module _ {A : Type 0} {IsElement : A → Type 0} {zero one : A} {add sub mul : A
       get_or-combination zero add mul m.cols cs m.rows j (matrix_rows hm) (omega arith)
       ∙ dot_comm laws cs (column zero m j) hc (elements-column zero m j hm (omega arith))
       ∙ sym (get_or-map (λ (r : List A). dot zero add mul r cs) (transpose zero m).rows j [] zero (omega arith) ∙ ap (λ (r : List A). dot zero add mul r cs) (row-transpose zero m j (omega arith))))
+
+  -- The transpose of a product is the product of the transposes in the other order.
+  pub transpose-product : (a b : Matrix A) → IsMatrix IsElement a → IsMatrix IsElement b → a.cols ≡ row_count b → transpose zero (product zero add mul a b) ≡ product zero add mul (transpose zero b) (transpose zero a)
+  transpose-product a b ha hb e =
+      let col : (j : ℕ) → j < b.cols → column zero (product zero add mul a b) j ≡ combination zero add mul (row_count a) (column zero b j) (transpose zero a).rows =
+      λ j h.
+      map-map (λ (r : List A). get_or r j zero) (λ (r : List A). combination zero add mul b.cols r b.rows) a.rows
+      ∙ map_ext _ _ a.rows (λ r. get_or-combination zero add mul b.cols r b.rows j (matrix_rows hb) h)
+      ∙ ap (λ (t : Matrix A). apply zero add mul t (column zero b j)) (sym (transpose-transpose IsElement zero a ha))
+      ∙ sym (apply-transpose (column zero b j) (transpose zero a) (IsMatrix-transpose zero a ha) (elements-column zero b j hb h)) in
+      same_matrix _ _ (length-map a.rows (λ (r : List A). combination zero add mul b.cols r b.rows))
+      (map_same _ _ (range_with_len 0 b.cols) col (columns_of b) ∙ sym (map-map (λ (r : List A). combination zero add mul (row_count a) r (transpose zero a).rows) (column zero b) (range_with_len 0 b.cols)))
 
   -- ---- the identity matrix on the right
   unit_turned : (n i j : ℕ) → i < n → j < n → get_or (unit_vector zero one n i) j zero ≡ get_or (unit_vector zero one n j) i zero
