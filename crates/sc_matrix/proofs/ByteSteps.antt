@@ -55,7 +55,7 @@ module _ {A : Type 0} where
 
     pub rows_swapped : (a b : ℕ) → a < n → b < n → a ≢ b
         → (swap (cut n c xs) a b ≡ cut n c (put_mid (a * c) c (put_mid (b * c) c xs (take c (drop (a * c) xs))) (take c (drop (b * c) xs))))
-          × (swap (cut n c xs) a b ≡ cut n c (put_mid (b * c) c (put_mid (a * c) c xs (take c (drop (b * c) xs))) (take c (drop (a * c) xs))))
+        × (swap (cut n c xs) a b ≡ cut n c (put_mid (b * c) c (put_mid (a * c) c xs (take c (drop (b * c) xs))) (take c (drop (a * c) xs))))
     rows_swapped a b ha hb ne =
         let fa = row_within n c a ha in
         let fb = row_within n c b hb in
@@ -71,7 +71,7 @@ module _ {A : Type 0} where
 -- to row a the images of row b are added, from place f on
 pub row_added : (n c : ℕ) (xs : List ℕ) (a b f : ℕ) (g : ℕ → ℕ) → length xs ≡ n * c → a < n → b < n → f ≤ c
     → set (cut n c xs) a (take f (get_or (cut n c xs) a []) ++ add_vectors bit_xor (drop f (get_or (cut n c xs) a [])) (map g (drop f (get_or (cut n c xs) b []))))
-      ≡ cut n c (put_mid (a * c + f) (c - f) xs (scaled_sum g (take (c - f) (drop (a * c + f) xs)) (take (c - f) (drop (b * c + f) xs))))
+    ≡ cut n c (put_mid (a * c + f) (c - f) xs (scaled_sum g (take (c - f) (drop (a * c + f) xs)) (take (c - f) (drop (b * c + f) xs))))
 row_added n c xs a b f g whole ha hb le =
     let u = get_or (cut n c xs) a [] in
     let v = get_or (cut n c xs) b [] in

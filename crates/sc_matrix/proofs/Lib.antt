@@ -31,4 +31,3 @@ pub mod LayoutLaws
 pub mod LayoutSteps
 pub mod ByteSteps
 pub mod MatrixSteps
-

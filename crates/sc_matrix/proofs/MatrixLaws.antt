@@ -21,6 +21,11 @@ All-swap P (x ∷ xs) a b h =
     let any = λ (i : ℕ). any_of P (x ∷ xs) i x h (All-head P x xs h) in
     All-set P (set (x ∷ xs) a (get_or (x ∷ xs) b x)) b (get_or (x ∷ xs) a x) (any a) (All-set P (x ∷ xs) a (get_or (x ∷ xs) b x) (any b) h)
 
+pub places_below : (n : ℕ) → IsVector (λ (j : ℕ). j < n) n (range_with_len 0 n)
+places_below n =
+    let l = length-range_with_len 0 n in
+    record { width = l; entries = λ k d h. let is = get_or-range_with_len 0 n k d (omega arith) in omega arith }
+
 -- ---- entries of one kind
 module _ {A : Type 0} {P : A → Type 0} where
   -- the rows as a vector of vectors
@@ -44,14 +49,7 @@ module _ {A : Type 0} {P : A → Type 0} where
   }
 
   pub IsMatrix-transpose : (zero : A) (m : Matrix A) → IsMatrix P m → IsMatrix P (transpose zero m)
-  IsMatrix-transpose zero m hm =
-      let n = length-range_with_len 0 m.cols in
-      record {
-        vectors =
-            All-map (IsVector P (row_count m)) (column zero m) (range_with_len 0 m.cols)
-            (λ k d h. let e : get_or (range_with_len 0 m.cols) k d ≡ 0 + k = get_or-range_with_len 0 m.cols k d (omega arith) in
-            elements-column zero m (get_or (range_with_len 0 m.cols) k d) hm (omega arith));
-      }
+  IsMatrix-transpose zero m hm = record { vectors = (IsVector-map {Q = IsVector P (row_count m)} (column zero m) (range_with_len 0 m.cols) (λ j h. elements-column zero m j hm h) (places_below m.cols)).entries }
 
   pub IsMatrix-submatrix : (zero : A) (m : Matrix A) (is js : List ℕ) → IsMatrix P m → P zero → IsMatrix P (submatrix zero m is js)
   IsMatrix-submatrix zero m is js hm hz = record {

@@ -9,7 +9,7 @@ use Rattle.sc_field.specs.Field.{IsField}
 use Rattle.sc_matrix.specs.Module.{IsModule}
 use Rattle.sc_matrix.specs.Vector.{IsVector, add_vectors, scale_vector, dot, combination, unit_vector}
 use Rattle.sc_matrix.specs.Matrix.{Matrix, IsMatrix, row, row_count, entry, column, apply, product, matrix_sum, identity}
-use Rattle.sc_matrix.proofs.VectorLaws.{map_same, map_const, map-plus, map-map, map-add_vectors, IsVector-set, IsVector-replicate, get_or-combination}
+use Rattle.sc_matrix.proofs.VectorLaws.{IsVector-map, map_same, map_const, map-plus, map-map, map-add_vectors, IsVector-set, IsVector-replicate, get_or-combination}
 use Rattle.sc_matrix.proofs.ModuleLaws.{dot-add_left, dot-add_right, dot-scale_right, dot_zero_right, dot_unit}
 use Rattle.sc_matrix.proofs.Modules.{vector_module, dot-combination, IsVector-combination}
 use Rattle.sc_matrix.proofs.MatrixLaws.{matrix_rows}
@@ -54,9 +54,7 @@ module _ {C A : Type 0} {IsElement : C → Type 0} {zero one : C} {add sub mul :
   -- ---- products of matrices
   pub IsMatrix-product : (a : Matrix C) (b : Matrix A) → IsMatrix IsElement a → IsMatrix IsValue b → IsMatrix IsValue (product none plus times a b)
   IsMatrix-product a b ha hb = record {
-    vectors =
-        All-map (IsVector IsValue b.cols) (λ (r : List C). combination none plus times b.cols r b.rows) a.rows
-        (λ k d h. IsVector-combination laws ml b.cols _ b.rows (ha.vectors k d h) (matrix_rows hb));
+    vectors = (IsVector-map {Q = IsVector IsValue b.cols} (λ (r : List C). combination none plus times b.cols r b.rows) a.rows (λ r hr. IsVector-combination laws ml b.cols r b.rows hr (matrix_rows hb)) (matrix_rows ha)).entries;
   }
 
   -- (a + b) c = a c + b c

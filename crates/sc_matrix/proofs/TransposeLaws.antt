@@ -7,7 +7,7 @@ use Rattle.std.proofs.lemmas.List.FromFn.{length-range_with_len, get_or-range_wi
 use Rattle.sc_field.specs.Field.{IsField}
 use Rattle.sc_matrix.specs.Vector.{unit_vector, IsVector, dot, combination}
 use Rattle.sc_matrix.specs.Matrix.{identity, Matrix, IsMatrix, row, row_count, entry, column, apply, transpose, product}
-use Rattle.sc_matrix.proofs.MatrixLaws.{matrix_rows, elements-column, IsMatrix-transpose}
+use Rattle.sc_matrix.proofs.MatrixLaws.{places_below, matrix_rows, elements-column, IsMatrix-transpose}
 use Rattle.sc_matrix.proofs.VectorLaws.{map_same, map_ext, map-map, length-combination, get_or-combination}
 use Rattle.sc_matrix.proofs.ModuleLaws.{dot_comm}
 use Rattle.sc_matrix.proofs.Modules.{field_module}
@@ -23,12 +23,6 @@ module _ {A : Type 0} where
       let wa : length (row a i) ≡ a.cols = (ha.vectors i [] h).width in
       let wb : length (row b i) ≡ b.cols = (hb.vectors i [] (omega arith)).width in
       ext_get_or zero (row a i) (row b i) (wa ∙ e ∙ sym wb) (λ j k. same i j h (omega arith))))
-
-  -- the places of its columns
-  columns_of : (m : Matrix A) → IsVector (λ (j : ℕ). j < m.cols) m.cols (range_with_len 0 m.cols)
-  columns_of m =
-      let n = length-range_with_len 0 m.cols in
-      record { width = n; entries = λ k d h. let is = get_or-range_with_len 0 m.cols k d (omega arith) in omega arith }
 
   pub row_count-transpose : (zero : A) (m : Matrix A) → row_count (transpose zero m) ≡ m.cols
   row_count-transpose zero m = length-map-range_with_len (column zero m) 0 m.cols
@@ -74,7 +68,7 @@ module _ {A : Type 0} {IsElement : A → Type 0} {zero one : A} {add sub mul : A
       ∙ ap (λ (t : Matrix A). apply zero add mul t (column zero b j)) (sym (transpose-transpose IsElement zero a ha))
       ∙ sym (apply-transpose (column zero b j) (transpose zero a) (IsMatrix-transpose zero a ha) (elements-column zero b j hb h)) in
       same_matrix _ _ (length-map a.rows (λ (r : List A). combination zero add mul b.cols r b.rows))
-      (map_same _ _ (range_with_len 0 b.cols) col (columns_of b) ∙ sym (map-map (λ (r : List A). combination zero add mul (row_count a) r (transpose zero a).rows) (column zero b) (range_with_len 0 b.cols)))
+      (map_same _ _ (range_with_len 0 b.cols) col (places_below b.cols) ∙ sym (map-map (λ (r : List A). combination zero add mul (row_count a) r (transpose zero a).rows) (column zero b) (range_with_len 0 b.cols)))
 
   -- ---- the identity matrix on the right
   unit_turned : (n i j : ℕ) → i < n → j < n → get_or (unit_vector zero one n i) j zero ≡ get_or (unit_vector zero one n j) i zero
