@@ -47,9 +47,9 @@ module _ {A : Type 0} where
       ap length (get_or-cut n c xs i [] h) ∙ length-take-le c (drop (i * c) xs) (rw length-drop (omega arith))
 
   -- one row more at the end
-  pub cut-push : (n c : ℕ) (xs ys : List A) → length xs ≡ n * c → length ys ≡ c → cut (n + 1) c (xs ++ ys) ≡ cut n c xs ++ ys ∷ []
+  pub cut-push : (n c : ℕ) (xs ys : List A) → length xs ≡ n * c → length ys ≡ c → cut n c xs ++ ys ∷ [] ≡ cut (n + 1) c (xs ++ ys)
   cut-push zero c xs ys e f =
-      rw (nil_from_length xs (omega arith)) (ap (λ (r : List A). r ∷ []) (take_all c ys (omega arith)))
+      rw (nil_from_length xs (omega arith)) (ap (λ (r : List A). r ∷ []) (sym (take_all c ys (omega arith))))
   cut-push (suc n) c xs ys e f =
       let m : suc n + 1 ≡ suc (n + 1) = omega arith in
       let t : take c (xs ++ ys) ≡ take c xs = take-append-le c xs ys (omega arith) in
@@ -93,15 +93,16 @@ module _ {A : Type 0} where
       (drop-put_mid (a * c) c xs ys (a * c + c) (omega arith) (omega arith) f)
 
   -- a write to the entry at row i and column j
-  pub cut-set : (n c : ℕ) (xs : List A) (i j : ℕ) (v : A) → i < n → j < c → cut n c (set xs (i * c + j) v) ≡ set (cut n c xs) i (set (get_or (cut n c xs) i []) j v)
+  pub cut-set : (n c : ℕ) (xs : List A) (i j : ℕ) (v : A) → i < n → j < c → set (cut n c xs) i (set (get_or (cut n c xs) i []) j v) ≡ cut n c (set xs (i * c + j) v)
   cut-set n c xs i j v h k =
-      cut_differs n c xs (set xs (i * c + j) v) i (set (get_or (cut n c xs) i []) j v) h
+      sym
+      (cut_differs n c xs (set xs (i * c + j) v) i (set (get_or (cut n c xs) i []) j v) h
       (take-set-le (i * c) xs (i * c + j) v (omega arith))
       (rw (drop-set-add (i * c) xs j v, take-set-lt c (drop (i * c) xs) j v k, get_or-cut n c xs i [] h) refl)
-      (drop-set-lt (i * c + c) xs (i * c + j) v (omega arith))
+      (drop-set-lt (i * c + c) xs (i * c + j) v (omega arith)))
 
   -- the first k rows
-  pub cut-take : (n k c : ℕ) (xs : List A) → k ≤ n → cut k c (take (k * c) xs) ≡ take k (cut n c xs)
+  pub cut-take : (n k c : ℕ) (xs : List A) → k ≤ n → take k (cut n c xs) ≡ cut k c (take (k * c) xs)
   cut-take n zero c xs h = refl
   cut-take zero (suc k) c xs h = absurd (omega arith)
   cut-take (suc n) (suc k) c xs h =

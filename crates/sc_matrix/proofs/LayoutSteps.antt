@@ -14,15 +14,6 @@ module _ {A : Type 0} (n c : ℕ) (xs : List A) where
   pub row_put : (a : ℕ) (ys : List A) → length xs ≡ n * c → a < n → length ys ≡ c → set (cut n c xs) a ys ≡ cut n c (put_mid (a * c) c xs ys)
   row_put a ys e h f = sym (cut-put_mid n c xs a ys e h f)
 
-  pub entry_set : (i j : ℕ) (v : A) → i < n → j < c → set (cut n c xs) i (set (get_or (cut n c xs) i []) j v) ≡ cut n c (set xs (i * c + j) v)
-  entry_set i j v h k = sym (cut-set n c xs i j v h k)
-
-  pub rows_kept : (k : ℕ) → k ≤ n → take k (cut n c xs) ≡ cut k c (take (k * c) xs)
-  rows_kept k h = sym (cut-take n k c xs h)
-
-  pub row_pushed : (ys : List A) → length xs ≡ n * c → length ys ≡ c → cut n c xs ++ ys ∷ [] ≡ cut (n + 1) c (xs ++ ys)
-  row_pushed ys e f = sym (cut-push n c xs ys e f)
-
 pub rows_filled : {A : Type 0} (n c : ℕ) (z : A) → replicate n (replicate c z) ≡ cut n c (replicate (n * c) z)
 rows_filled n c z = sym (cut-replicate n c z)
 
@@ -42,4 +33,4 @@ mapped_all f xs ys d e l each =
 pub mapped_more : {X : Type 0} (f : ℕ → X) (ks : List ℕ) (n : ℕ) → n < length ks → take (n + 1) (map f ks) ≡ take n (map f ks) ++ f (get_or ks n 0) ∷ []
 mapped_more f ks n h = take-map f (n + 1) ks ∙ map_more f ks n 0 h ∙ ap (λ ys. ys ++ f (get_or ks n 0) ∷ []) (sym (take-map f n ks))
 
-pub ruleset rows_steps = (length-replicate, length-set, get_or-replicate, get_or-set_at, get_or-set_other, mapped_more, length-map, length-append, get_or-range_with_len, length-range_with_len, take_at_read, map_push, append_assoc, row_put, entry_set, rows_kept, row_pushed, rows_filled, get_or-cut, length-cut, length-put_mid, with_items_is, take_all, get_or-take, get_or-drop)
+pub ruleset rows_steps = (length-replicate, length-set, get_or-replicate, get_or-set_at, get_or-set_other, mapped_more, length-map, length-append, get_or-range_with_len, length-range_with_len, take_at_read, map_push, append_assoc, row_put, cut-set, cut-take, cut-push, rows_filled, get_or-cut, length-cut, length-put_mid, with_items_is, take_all, get_or-take, get_or-drop)

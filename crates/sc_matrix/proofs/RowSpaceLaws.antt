@@ -31,9 +31,8 @@ swap-swap xs a b d ha hb =
 -- a subspace has the dot products of elements and its values
 pub dot_in : {C A : Type 0} {IsElement : C → Type 0} {none : A} {plus : A → A → A} {times : C → A → A} {Has : A → Type 0} → IsSubspace IsElement none plus times Has
     → (cs : List C) (vs : List A) {p q : ℕ} → IsVector IsElement p cs → IsVector Has q vs → Has (dot none plus times cs vs)
-dot_in s [] vs hc hv = s.has_none
-dot_in s (c ∷ cs) [] hc hv = s.has_none
 dot_in s (c ∷ cs) (v ∷ vs) hc hv = s.has_plus _ _ (s.has_times c v (head hc) (head hv)) (dot_in s cs vs (tail hc) (tail hv))
+dot_in s cs vs hc hv = s.has_none
 
 -- ---- the kernel
 module _ {C A : Type 0} (none : A) (plus : A → A → A) (times : C → A → A) where
