@@ -1,12 +1,11 @@
 -- Two matrices are equal exactly where the numbers of all their entries are, with their sizes.
-use Rattle.std.proofs.Common.{◌≡◌, ◌≢◌, ◌↔◌, ℕ, zero as naught, suc, ◌*◌, Bool, false, ◌&&◌, IsTrue, List, [], ◌∷◌, ◌++◌, length, map, take, drop, flat_map, refl, sym, ◌∙◌, ap, ap₂, arith}
+use Rattle.std.proofs.Common.{◌≡◌, ◌↔◌, ℕ, zero as naught, suc, ◌*◌, Bool, IsTrue, List, [], ◌∷◌, ◌++◌, length, map, take, drop, flat_map, refl, sym, ◌∙◌, ap, ap₂, arith}
 use Rattle.std.specs.Str.{bytes_eq}
-use Rattle.std.proofs.lemmas.Bool.{ne_eqb, eq-eqb}
 use Rattle.std.proofs.lemmas.Slice.Eq.{bytes_eq-Decides}
 use Rattle.std.proofs.lemmas.List.{take-append-drop, nil_from_length, length-drop, length-map, take_at, drop_at, map-id}
 use Rattle.sc_field.specs.Field.{IsNumbered, IsNumber}
 use Rattle.sc_matrix.specs.Vector.{IsVector}
-use Rattle.sc_matrix.specs.Matrix.{Matrix, IsMatrix, row_count, all_numbers}
+use Rattle.sc_matrix.specs.Matrix.{Matrix, IsMatrix, all_numbers}
 use Rattle.sc_matrix.specs.Layout.{cut}
 use Rattle.sc_matrix.specs.Rows.{table}
 use Rattle.sc_matrix.specs.Numbers.{elements_of, AreNumbers}

@@ -1,10 +1,9 @@
 -- How the rows of a list that is cut into rows follow from the list.
-use Rattle.std.proofs.Common.{◌≡◌, ℕ, zero, suc, ◌+◌, ◌*◌, ◌<◌, ◌≤◌, List, [], ◌∷◌, ◌++◌, length, get_or, take, drop, set, replicate, All, refl, sym, ◌∙◌, ap, ap₂, ◌-◌, ◌≢◌, inl, inr, arith, Vec}
-use Rattle.std.proofs.lemmas.List.{drop-drop, length-take-le, length-drop, take-append-le, drop-append-le, drop-take, take-replicate, drop-replicate, ext_get_or, get_or-set_same, get_or-set_other, length-set, take_all, drop-set-lt, drop-set-add, take-set-le, take-take, nil_from_length, get_or-take, get_or-drop, length-append, with_items_is}
+use Rattle.std.proofs.Common.{◌≡◌, ℕ, zero, suc, ◌+◌, ◌*◌, ◌<◌, ◌≤◌, List, [], ◌∷◌, ◌++◌, length, get_or, take, drop, set, replicate, All, refl, sym, ◌∙◌, ap, ap₂, ◌-◌, arith, Vec}
+use Rattle.std.proofs.lemmas.List.{drop-drop, length-take-le, length-drop, take-append-le, drop-append-le, drop-take, take-replicate, drop-replicate, take_all, drop-set-lt, drop-set-add, take-set-le, take-take, nil_from_length, get_or-take, get_or-drop, length-append, with_items_is}
 use Rattle.std.proofs.lemmas.List.Elements.{All-take, All-drop}
 use Rattle.std.proofs.lemmas.Nat.{row_fits}
 use Rattle.std.proofs.lemmas.Slice.{drop-put_mid, take-put_mid_below, between-put_mid}
-use Rattle.std.proofs.lemmas.Bool.{cases_order}
 use Rattle.std.proofs.Math.Seq.{take-set-lt}
 use borrow.Rule.Slice.PartMut.{put_mid}
 use Rattle.sc_matrix.specs.Matrix.{entry}

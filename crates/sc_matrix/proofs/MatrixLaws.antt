@@ -1,5 +1,5 @@
 -- Matrices of entries of one kind, and maps of the entries of a matrix.
-use Rattle.std.proofs.Common.{◌≡◌, ℕ, zero as naught, suc, ◌+◌, ◌<◌, List, [], ◌∷◌, length, get_or, set, swap, map, replicate, All, refl, sym, ◌∙◌, ap, ap₂, subst, inl, inr, arith}
+use Rattle.std.proofs.Common.{◌≡◌, ℕ, zero as naught, suc, ◌<◌, List, [], ◌∷◌, length, get_or, set, swap, map, replicate, All, refl, sym, ◌∙◌, ap, ap₂, subst, inl, inr, arith}
 use Rattle.std.specs.List.{range_with_len}
 use Rattle.std.proofs.lemmas.Bool.{cases_lt}
 use Rattle.std.proofs.Math.ListN.{get_or-map}

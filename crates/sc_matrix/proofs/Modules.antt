@@ -1,14 +1,14 @@
 -- The modules of this crate over a field: the field itself, its action on bytes, and the vectors of n values of a module.
-use Rattle.std.proofs.Common.{◌≡◌, ℕ, zero as naught, suc, ◌+◌, ◌<◌, List, [], ◌∷◌, length, get_or, map, take, replicate, bit_xor, refl, sym, ◌∙◌, ap, ap₂, arith}
+use Rattle.std.proofs.Common.{◌≡◌, ℕ, zero as naught, suc, List, [], ◌∷◌, length, map, replicate, bit_xor, refl, sym, ◌∙◌, ap₂, arith}
 use Rattle.std.specs.Int.Bits.{xor_assoc, xor_zero_r, xor_zero_l}
 use Rattle.std.proofs.lemmas.Nat.{xor_comm, xor_of_8}
-use Rattle.std.proofs.lemmas.List.{map-id, get_or_default}
+use Rattle.std.proofs.lemmas.List.{map-id}
 use Rattle.sc_field.specs.Field.{IsField, IsAction}
 use Rattle.sc_field.specs.FieldLemmas.{add_mul, zero_mul, one_mul}
 use Rattle.sc_matrix.specs.Module.{IsModule, IsLinear, IsByte}
 use Rattle.sc_matrix.specs.Vector.{IsVector, add_vectors, scale_vector, dot, combination}
 use Rattle.sc_matrix.proofs.VectorLaws.{add_vectors-none, head, tail, map_same, map_const, map-plus, map-map, map-add_vectors, IsVector-replicate, IsVector-add_vectors, IsVector-map}
-use Rattle.sc_matrix.proofs.ModuleLaws.{value-dot, linear-dot, dot_zero_left, dot-add_left, dot-scale_left, dot_more}
+use Rattle.sc_matrix.proofs.ModuleLaws.{value-dot, linear-dot, dot_zero_left, dot-add_left, dot-scale_left}
 
 module _ {A : Type 0} {IsElement : A → Type 0} {zero one : A} {add sub mul : A → A → A} {inv : A → A} (laws : IsField IsElement zero one add sub mul inv) where
   pub field_module : IsModule IsElement zero one add mul IsElement zero add mul

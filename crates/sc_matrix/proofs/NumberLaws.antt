@@ -1,6 +1,6 @@
 -- Numbers of elements as a module, and what the operations on rows of numbers are on the matrix of the elements. The laws
 -- come first: under a bound `F: Field` they are `g.met.F.Field.field`, `.action`, `.numbered` and `.by_number`.
-use Rattle.std.proofs.Common.{◌≡◌, ◌↔◌, ℕ, ◌<◌, ◌≤◌, ◌+◌, List, [], ◌∷◌, ◌++◌, All, Option, None, Some, MatchOption, length, get_or, map, take, drop, replicate, bit_xor, refl, sym, ◌∙◌, ap, ap₂, subst, arith}
+use Rattle.std.proofs.Common.{◌≡◌, ◌↔◌, ℕ, ◌<◌, ◌≤◌, List, [], ◌++◌, All, Option, None, Some, MatchOption, length, get_or, map, take, drop, replicate, bit_xor, refl, sym, ◌∙◌, ap, ap₂, subst, arith}
 use Rattle.std.specs.Int.Bits.{xor_zero_r}
 use Rattle.std.proofs.lemmas.List.{map-append, take-map, drop-map, drop_all, take_all, length-map, length-replicate, get_or-map, get_or-replicate, ext_get_or}
 use Rattle.std.proofs.lemmas.List.Elements.{All-same}

@@ -1,9 +1,9 @@
 -- Laws of the transpose, by the entries of matrices.
-use Rattle.std.proofs.Common.{replicate, refl, inl, inr, ◌≡◌, ℕ, ◌<◌, List, [], length, get_or, sym, ◌∙◌, ap, ap₂, arith}
+use Rattle.std.proofs.Common.{replicate, refl, ◌≡◌, ℕ, ◌<◌, List, [], length, get_or, sym, ◌∙◌, ap, arith}
 use Rattle.std.proofs.lemmas.Grind.{get_or-set_at}
 use Rattle.std.proofs.lemmas.List.{map-id, length-replicate, get_or-replicate, get_or-set_other, length-map, get_or-map, ext_get_or}
 use Rattle.std.specs.List.{range_with_len}
-use Rattle.std.proofs.lemmas.List.FromFn.{length-range_with_len, get_or-range_with_len, length-map-range_with_len, get_or-map-range_with_len}
+use Rattle.std.proofs.lemmas.List.FromFn.{length-map-range_with_len, get_or-map-range_with_len}
 use Rattle.sc_field.specs.Field.{IsField}
 use Rattle.sc_matrix.specs.Vector.{unit_vector, IsVector, dot, combination}
 use Rattle.sc_matrix.specs.Matrix.{identity, Matrix, IsMatrix, row, row_count, entry, column, apply, transpose, product}
@@ -11,7 +11,7 @@ use Rattle.sc_matrix.proofs.MatrixLaws.{places_below, matrix_rows, elements-colu
 use Rattle.sc_matrix.proofs.VectorLaws.{map_same, map_ext, map-map, length-combination, get_or-combination}
 use Rattle.sc_matrix.proofs.ModuleLaws.{dot_comm}
 use Rattle.sc_matrix.proofs.Modules.{field_module}
-use Rattle.sc_matrix.proofs.ProductLaws.{apply-identity, IsMatrix-identity, same_matrix, IsMatrix-product, entry-product}
+use Rattle.sc_matrix.proofs.ProductLaws.{apply-identity, IsMatrix-identity, same_matrix}
 
 module _ {A : Type 0} where
   -- two matrices of one size with the same entries are equal

@@ -1,4 +1,4 @@
-use Rattle.std.proofs.Common.{◌≡◌, ◌<◌, ℕ, List, [], length, map, replicate, bit_xor, arith}
+use Rattle.std.proofs.Common.{[], length, map, replicate, bit_xor, arith}
 use Rattle.std.proofs.lemmas.List.{length-map, get_or-map, drop_all}
 use Rattle.sc_matrix.specs.Vector.{add_vectors, scale_vector}
 use Rattle.sc_matrix.specs.Rows.{table}

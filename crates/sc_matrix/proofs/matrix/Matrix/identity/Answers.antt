@@ -1,6 +1,5 @@
-use Rattle.std.proofs.Common.{◌≡◌, ℕ, List, [], length, map, ap, ap₂, arith}
+use Rattle.std.proofs.Common.{◌≡◌, ℕ, List, [], length, map, ap₂, arith}
 use Rattle.std.specs.List.{range_with_len}
-use Rattle.std.proofs.lemmas.Grind.{common_steps}
 use Rattle.std.proofs.lemmas.List.FromFn.{length-range_with_len, get_or-range_with_len}
 use Rattle.sc_matrix.specs.Vector.{unit_vector}
 use Rattle.sc_matrix.specs.Matrix.{Matrix}
