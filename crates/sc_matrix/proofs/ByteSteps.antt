@@ -60,13 +60,11 @@ module _ {A : Type 0} where
         let fa = row_within n c a ha in
         let fb = row_within n c b hb in
         let rows : List (List A) = cut n c xs in
-        let ra = get_or-cut n c xs a [] ha in
-        let rb = get_or-cut n c xs b [] hb in
         let wa : length (take c (drop (a * c) xs)) ≡ c = length-take-le c (drop (a * c) xs) (omega (arith, length-drop (a * c) xs)) in
         let wb : length (take c (drop (b * c) xs)) ≡ c = length-take-le c (drop (b * c) xs) (omega (arith, length-drop (b * c) xs)) in
         let k = length-cut n c xs in
         let is : set (set rows a (get_or rows b [])) b (get_or rows a []) ≡ swap rows a b = swap_is rows a b [] (omega arith) (omega arith) in
-        grind (arith, set_comm, cut-put_mid, length-put_mid, is)
+        grind (arith, set_comm, get_or-cut, cut-put_mid, length-put_mid, is)
 
 -- to row a the images of row b are added, from place f on
 pub row_added : (n c : ℕ) (xs : List ℕ) (a b f : ℕ) (g : ℕ → ℕ) → length xs ≡ n * c → a < n → b < n → f ≤ c

@@ -20,13 +20,6 @@ use Rattle.sc_matrix.proofs.ModuleLaws.{linear-dot, value-dot, dot_comm}
 use Rattle.sc_matrix.proofs.Modules.{byte_module, vector_module}
 use Rattle.sc_matrix.proofs.LayoutLaws.{length-cut}
 
--- ---- rows in memory
-pub count_of : {B : Type 0} (f : ℕ → B) (r : Rows) (m : Matrix B) → elements_of f r ≡ m → row_count m ≡ r.count
-count_of f r m e = ap row_count (sym e) ∙ row_count-map f (table r) ∙ length-cut r.count r.width r.bytes.items
-
-pub width_of : {B : Type 0} (f : ℕ → B) (r : Rows) (m : Matrix B) → elements_of f r ≡ m → m.cols ≡ r.width
-width_of f r m e = ap (λ (k : Matrix _). k.cols) (sym e)
-
 -- from one account of an option to another
 pub option_account : {A : Type 0} {P P' : Type 0} {Q Q' : A → Type 0} (o : Option A) → (P → P') → ((x : A) → Q x → Q' x) → MatchOption o P Q → MatchOption o P' Q'
 option_account None f h m = f m
@@ -112,7 +105,7 @@ module _ {A : Type 0} {IsElement : A → Type 0} {zero one : A} {add sub mul : A
   -- what an operation on the rows in memory makes of their matrix
   module _ (r : Rows) {m : Matrix A} (kept : AreNumbers IsElement number element r) (view : elements_of element r ≡ m) where
     within : (a : ℕ) → a < row_count m → a < row_count (table r)
-    within a h = let n = count_of element r m view in let k = length-cut r.count r.width r.bytes.items in omega arith
+    within a h = let n = ap row_count view in let l = row_count-map element (table r) in omega arith
 
     pub row_scaled : {t : Matrix ℕ} (a : ℕ) (x : A) → IsElement x → a < row_count m → t ≡ scale_row act (table r) a x → IsMatrix Number t × (map_matrix element t ≡ scale_row mul m a x)
     row_scaled a x hx ha e =
@@ -127,8 +120,7 @@ module _ {A : Type 0} {IsElement : A → Type 0} {zero one : A} {add sub mul : A
     row_added a b from x hx ha hb le e =
         let hu = kept.vectors a [] (within a ha) in
         let hv = kept.vectors b [] (within b hb) in
-        let w = width_of element r m view in
-        let within_row : from ≤ r.width = omega arith in
+        let within_row : from ≤ r.width = omega (arith, ap (λ (k : Matrix A). k.cols) view) in
         rw (e, ← view) (
           IsMatrix-with_row (table r) a _ kept (numbers-added _ _ x from hx hu hv within_row),
           map-with_row element (table r) a _
@@ -175,17 +167,14 @@ module _ {A : Type 0} {IsElement : A → Type 0} {zero one : A} {add sub mul : A
         })
         found)
 
-  -- the dot product of a row of numbers and a vector of elements
-  pub numbers-dot : {p q : ℕ} (v : List A) (ns : List ℕ) → IsVector IsElement p v → IsVector Number q ns
-      → Number (dot 0 bit_xor act v ns) × (element (dot 0 bit_xor act v ns) ≡ dot zero add mul (map element ns) v)
-  numbers-dot v ns hv hn = (
-    value-dot laws number_module v ns hv hn,
-    linear-dot laws number_module element_linear v ns hv hn ∙ dot_comm laws v (map element ns) hv (IsVector-map element ns (λ m h. h.is_element) hn),
-  )
-
   -- what a loop has that summed the products of all entries
   pub dot_summed : (v : List A) (ns : List ℕ) (n total : ℕ) → length v ≤ n → length v ≡ length ns → All Number ns → All IsElement (take n v)
       → dot 0 bit_xor act v ns ≡ bit_xor total (dot 0 bit_xor act (drop n v) (drop n ns)) → Number total × (element total ≡ dot zero add mul (map element ns) v)
   dot_summed v ns n total h l hn hv e =
       let rest : bit_xor total (dot 0 bit_xor act (drop n v) (drop n ns)) ≡ total = rw (drop_all n v h) (xor_zero_r total) in
-      rw (← (e ∙ rest)) (numbers-dot v ns (vector_of v (All-same IsElement _ _ (sym (take_all n v h)) hv)) (vector_of ns hn))
+      let elements : IsVector IsElement (length v) v = vector_of v (All-same IsElement _ _ (sym (take_all n v h)) hv) in
+      let numbers : IsVector Number (length ns) ns = vector_of ns hn in
+      rw (← (e ∙ rest)) (
+        value-dot laws number_module v ns elements numbers,
+        linear-dot laws number_module element_linear v ns elements numbers ∙ dot_comm laws v (map element ns) elements (IsVector-map element ns (λ m k. k.is_element) numbers),
+      )

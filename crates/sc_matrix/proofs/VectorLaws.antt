@@ -93,10 +93,9 @@ module _ {A : Type 0} where
   length-add_vectors add (x ∷ xs) (y ∷ ys) e = ap suc (length-add_vectors add xs ys (omega arith))
 
   pub get_or-add_vectors : (add : A → A → A) (xs ys : List A) (i : ℕ) (d : A) → length xs ≡ length ys → i < length xs → get_or (add_vectors add xs ys) i d ≡ add (get_or xs i d) (get_or ys i d)
-  get_or-add_vectors add [] ys i d e h = absurd (omega arith)
-  get_or-add_vectors add (x ∷ xs) [] i d e h = absurd (omega arith)
   get_or-add_vectors add (x ∷ xs) (y ∷ ys) none d e h = refl
   get_or-add_vectors add (x ∷ xs) (y ∷ ys) (suc i) d e h = get_or-add_vectors add xs ys i d (omega arith) (omega arith)
+  get_or-add_vectors add xs ys i d e h = absurd (omega arith)
 
   pub length-scale_vector : {C : Type 0} (mul : C → A → A) (c : C) (xs : List A) → length (scale_vector mul c xs) ≡ length xs
   length-scale_vector mul c xs = length-map xs (mul c)
