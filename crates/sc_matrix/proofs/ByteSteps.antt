@@ -9,7 +9,7 @@ use Rattle.sc_matrix.specs.Vector.{add_vectors}
 use Rattle.sc_matrix.specs.Layout.{cut}
 use Rattle.sc_matrix.proofs.VectorLaws.{length-add_vectors}
 use Rattle.sc_matrix.proofs.LayoutLaws.{row_within, length-cut, length-row, get_or-cut, cut-put_mid, length-put_mid}
-use Rattle.sc_matrix.proofs.LayoutSteps.{row_put}
+use Rattle.sc_matrix.proofs.LayoutSteps.{row_put, rows_steps}
 
 -- the sum that the kernel makes is one of vectors
 pub scaled_sum_is : (f : ℕ → ℕ) (dst src : List ℕ) → length src ≡ length dst → scaled_sum f dst src ≡ add_vectors bit_xor dst (map f src)
@@ -82,3 +82,5 @@ row_added n c xs a b f g whole ha hb le =
     row_end_put n c xs whole a f (add_vectors bit_xor (drop f u) (map g (drop f v))) ha le (omega arith)
     ∙ ap (λ (zs : List ℕ). cut n c (put_mid (a * c + f) (c - f) xs zs))
     (sym (scaled_sum_is g (drop f u) (drop f v) (omega arith)) ∙ ap₂ (scaled_sum g) (row_end n c xs whole a f ha le) (row_end n c xs whole b f hb le))
+
+pub ruleset two_rows = (rows_swapped, row_added, rows_steps)

@@ -1,26 +1,19 @@
 use Rattle.std.proofs.Common.{◌≡◌, ℕ, List, [], length, map, bit_xor, ap, ap₂, arith}
 use Rattle.sc_matrix.specs.Vector.{combination}
-use Rattle.sc_matrix.specs.Matrix.{Matrix, row_count}
+use Rattle.sc_matrix.specs.Matrix.{Matrix}
 use Rattle.sc_matrix.specs.Numbers.{elements_of}
 use Rattle.sc_matrix.specs.Rows.{table}
 use Rattle.sc_matrix.proofs.MatrixSteps.{map-row}
 use Rattle.sc_matrix.proofs.LayoutSteps.{rows_steps, sum_begins, mapped_all}
 use Rattle.sc_matrix.proofs.rows.Rows.product.Goals as goal
 
-pub loop-i-init : goal.loop-i-init
-loop-i-init g c =
-    let rows = ap row_count c.in_ok-out.ensures in
-    record { count = grind (arith, rows_steps); width = grind (arith, rows_steps); done = λ k h. absurd (omega arith); rest = λ k h l. grind (arith, rows_steps) }
-
 pub loop-i-preserved : goal.loop-i-preserved
-loop-i-preserved g c =
-    let rows = ap row_count c.add_combination.ensures in
-    record {
-      count = grind (arith, rows_steps);
-      width = grind (arith, rows_steps);
-      done = λ k h. grind (arith, sum_begins, rows_steps, c.loop-i.invariant.rest c.loop-i.i);
-      rest = λ k h l. grind (arith, rows_steps, c.loop-i.invariant.rest k);
-    }
+loop-i-preserved g c = record {
+  count = grind (arith, rows_steps);
+  width = grind (arith, rows_steps);
+  done = λ k h. grind (arith, sum_begins, rows_steps, c.loop-i.invariant.rest c.loop-i.i);
+  rest = λ k h l. grind (arith, rows_steps, c.loop-i.invariant.rest k);
+}
 
 pub returns : goal.returns
 returns g c =
