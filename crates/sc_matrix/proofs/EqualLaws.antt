@@ -1,12 +1,11 @@
 -- Two matrices are equal exactly where the numbers of all their entries are, with their sizes.
-use Rattle.std.proofs.Common.{◌≡◌, ◌≢◌, ◌↔◌, ℕ, zero as naught, suc, ◌*◌, Bool, false, ◌&&◌, IsTrue, List, [], ◌∷◌, ◌++◌, length, map, take, drop, flat_map, refl, sym, ◌∙◌, ap, ap₂, arith}
+use Rattle.std.proofs.Common.{◌≡◌, ◌↔◌, ℕ, zero as naught, suc, ◌*◌, Bool, IsTrue, List, [], ◌∷◌, ◌++◌, length, map, take, drop, flat_map, refl, sym, ◌∙◌, ap, ap₂, arith}
 use Rattle.std.specs.Str.{bytes_eq}
-use Rattle.std.proofs.lemmas.Bool.{ne_eqb, eq-eqb}
 use Rattle.std.proofs.lemmas.Slice.Eq.{bytes_eq-Decides}
 use Rattle.std.proofs.lemmas.List.{take-append-drop, nil_from_length, length-drop, length-map, take_at, drop_at, map-id}
 use Rattle.sc_field.specs.Field.{IsNumbered, IsNumber}
 use Rattle.sc_matrix.specs.Vector.{IsVector}
-use Rattle.sc_matrix.specs.Matrix.{Matrix, IsMatrix, row_count, all_numbers}
+use Rattle.sc_matrix.specs.Matrix.{Matrix, IsMatrix, all_numbers}
 use Rattle.sc_matrix.specs.Layout.{cut}
 use Rattle.sc_matrix.specs.Rows.{table}
 use Rattle.sc_matrix.specs.Numbers.{elements_of, AreNumbers}
@@ -28,21 +27,17 @@ flat_map-map {A = A} f g {P = P} (r ∷ rows) back h =
     ap₂ (λ (xs ys : List A). xs ++ ys) (map-map g f r ∙ map_same (λ (x : A). g (f x)) (λ (x : A). x) r back (head h) ∙ map-id r) (flat_map-map f g rows back (tail h))
 
 -- what the rows in memory are
-pub all_numbers-is : {A : Type 0} {IsElement : A → Type 0} (number : A → ℕ) (element : ℕ → A) (r : Rows) → AreNumbers IsElement number element r → all_numbers number (elements_of element r) ≡ r.width ∷ r.count ∷ r.bytes.items
-all_numbers-is {IsElement = IsElement} number element r h =
-    ap₂ (λ (n : ℕ) (xs : List ℕ). r.width ∷ n ∷ xs) (row_count-map element (table r) ∙ length-cut r.count r.width r.bytes.items)
-    (flat_map-map element number {P = IsNumber IsElement number element} (table r).rows (λ x hx. hx.same) (matrix_rows h) ∙ flat-cut r.count r.width r.bytes.items r.whole)
+all_numbers-is : {A : Type 0} {IsElement : A → Type 0} (number : A → ℕ) (element : ℕ → A) (r : Rows) {m : Matrix A} → AreNumbers IsElement number element r → elements_of element r ≡ m
+    → all_numbers number m ≡ r.width ∷ r.count ∷ r.bytes.items
+all_numbers-is {IsElement = IsElement} number element r h view =
+    rw (← view)
+    (ap₂ (λ (n : ℕ) (xs : List ℕ). r.width ∷ n ∷ xs) (row_count-map element (table r) ∙ length-cut r.count r.width r.bytes.items)
+    (flat_map-map element number {P = IsNumber IsElement number element} (table r).rows (λ x hx. hx.same) (matrix_rows h) ∙ flat-cut r.count r.width r.bytes.items r.whole))
 
--- lists of numbers that begin with two sizes
-module _ (w n w' n' : ℕ) (xs ys : List ℕ) where
-  pub differ_first : w ≢ w' → false ≡ bytes_eq (w ∷ n ∷ xs) (w' ∷ n' ∷ ys)
-  differ_first h = sym (ap (λ (b : Bool). b && bytes_eq (n ∷ xs) (n' ∷ ys)) (ne_eqb w w' h))
-
-  pub differ_second : w ≡ w' → n ≢ n' → false ≡ bytes_eq (w ∷ n ∷ xs) (w' ∷ n' ∷ ys)
-  differ_second e h = sym (ap₂ (λ (a b : Bool). a && (b && bytes_eq xs ys)) (eq-eqb w w' e) (ne_eqb n n' h))
-
-  pub same_sizes : (b : Bool) → w ≡ w' → n ≡ n' → b ≡ bytes_eq xs ys → b ≡ bytes_eq (w ∷ n ∷ xs) (w' ∷ n' ∷ ys)
-  same_sizes b e f g = g ∙ sym (ap₂ (λ (a b : Bool). a && (b && bytes_eq xs ys)) (eq-eqb w w' e) (eq-eqb n n' f))
+pub equal_told : {A : Type 0} {IsElement : A → Type 0} (number : A → ℕ) (element : ℕ → A) (r s : Rows) {m n : Matrix A} {b : Bool}
+    → AreNumbers IsElement number element r → elements_of element r ≡ m → AreNumbers IsElement number element s → elements_of element s ≡ n
+    → b ≡ bytes_eq (r.width ∷ r.count ∷ r.bytes.items) (s.width ∷ s.count ∷ s.bytes.items) → b ≡ bytes_eq (all_numbers number m) (all_numbers number n)
+equal_told number element r s hr seen hs seen' e = e ∙ ap₂ bytes_eq (sym (all_numbers-is number element r hr seen)) (sym (all_numbers-is number element s hs seen'))
 
 -- ---- equal numbers are of equal matrices
 cut-flat : {A B : Type 0} (f : A → B) {P : A → Type 0} (c : ℕ) (rows : List (List A)) {n : ℕ} → IsVector (IsVector P c) n rows → cut (length rows) c (flat_map (map f) rows) ≡ map (map f) rows
@@ -60,16 +55,17 @@ module _ {A : Type 0} {IsElement : A → Type 0} {zero one : A} {number : A → 
       (λ r hr. map-map element number r ∙ map_same (λ (x : A). element (number x)) (λ (x : A). x) r (λ x hx. numbered.element_number x hx) hr ∙ map-id r) h
       ∙ map-id rows
 
+  -- the matrix that has these sizes and numbers
+  abbrev read_back : List ℕ → Matrix A
+  read_back (c ∷ n ∷ xs) = record { cols = c; rows = map (map element) (cut n c xs) }
+  read_back xs = record { cols = 0; rows = [] }
+
+  all_numbers-back : (a : Matrix A) → IsMatrix IsElement a → read_back (all_numbers number a) ≡ a
+  all_numbers-back a ha =
+      same_matrix (read_back (all_numbers number a)) a refl (ap (map (map element)) (cut-flat number a.cols a.rows (matrix_rows ha)) ∙ rows_back a.rows (matrix_rows ha))
+
   pub equal_exact : (a b : Matrix A) → IsMatrix IsElement a → IsMatrix IsElement b → IsTrue (bytes_eq (all_numbers number a) (all_numbers number b)) ↔ (a ≡ b)
   equal_exact a b ha hb = (
-    λ t.
-        let e : all_numbers number a ≡ all_numbers number b = (bytes_eq-Decides (all_numbers number a) (all_numbers number b)).0 t in
-        let cols : a.cols ≡ b.cols = cc in
-        let count : row_count a ≡ row_count b = cc in
-        let flat : flat_map (map number) a.rows ≡ flat_map (map number) b.rows = cc in
-        let rows : map (map number) a.rows ≡ map (map number) b.rows =
-        sym (cut-flat number a.cols a.rows (matrix_rows ha)) ∙ ap₂ (λ (n : ℕ) (xs : List ℕ). cut n a.cols xs) count flat ∙ ap (λ (c : ℕ). cut (row_count b) c (flat_map (map number) b.rows)) cols
-        ∙ cut-flat number b.cols b.rows (matrix_rows hb) in
-        same_matrix a b cols (sym (rows_back a.rows (matrix_rows ha)) ∙ ap (map (map element)) rows ∙ rows_back b.rows (matrix_rows hb)),
+    λ t. sym (all_numbers-back a ha) ∙ ap read_back ((bytes_eq-Decides (all_numbers number a) (all_numbers number b)).0 t) ∙ all_numbers-back b hb,
     λ e. (bytes_eq-Decides (all_numbers number a) (all_numbers number b)).1 (ap (all_numbers number) e),
   )

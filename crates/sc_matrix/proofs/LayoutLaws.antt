@@ -1,10 +1,9 @@
 -- How the rows of a list that is cut into rows follow from the list.
-use Rattle.std.proofs.Common.{◌≡◌, ℕ, zero, suc, ◌+◌, ◌*◌, ◌<◌, ◌≤◌, List, [], ◌∷◌, ◌++◌, length, get_or, take, drop, set, replicate, All, refl, sym, ◌∙◌, ap, ◌-◌, ◌≢◌, inl, inr, arith, Vec}
-use Rattle.std.proofs.lemmas.List.{drop-drop, length-take-le, length-drop, take-append-le, drop-append-le, drop-take, take-replicate, drop-replicate, ext_get_or, get_or-set_same, get_or-set_other, length-set, take_all, drop-set-lt, drop-set-add, take-set-le, take-take, nil_from_length, get_or-take, get_or-drop, length-append, with_items_is}
+use Rattle.std.proofs.Common.{◌≡◌, ℕ, zero, suc, ◌+◌, ◌*◌, ◌<◌, ◌≤◌, List, [], ◌∷◌, ◌++◌, length, get_or, take, drop, set, replicate, All, refl, sym, ◌∙◌, ap, ap₂, ◌-◌, arith, Vec}
+use Rattle.std.proofs.lemmas.List.{drop-drop, length-take-le, length-drop, take-append-le, drop-append-le, drop-take, take-replicate, drop-replicate, take_all, drop-set-lt, drop-set-add, take-set-le, take-take, nil_from_length, get_or-take, get_or-drop, length-append, with_items_is}
 use Rattle.std.proofs.lemmas.List.Elements.{All-take, All-drop}
 use Rattle.std.proofs.lemmas.Nat.{row_fits}
 use Rattle.std.proofs.lemmas.Slice.{drop-put_mid, take-put_mid_below, between-put_mid}
-use Rattle.std.proofs.lemmas.Bool.{cases_order}
 use Rattle.std.proofs.Math.Seq.{take-set-lt}
 use borrow.Rule.Slice.PartMut.{put_mid}
 use Rattle.sc_matrix.specs.Matrix.{entry}
@@ -47,9 +46,9 @@ module _ {A : Type 0} where
       ap length (get_or-cut n c xs i [] h) ∙ length-take-le c (drop (i * c) xs) (rw length-drop (omega arith))
 
   -- one row more at the end
-  pub cut-push : (n c : ℕ) (xs ys : List A) → length xs ≡ n * c → length ys ≡ c → cut (n + 1) c (xs ++ ys) ≡ cut n c xs ++ ys ∷ []
+  pub cut-push : (n c : ℕ) (xs ys : List A) → length xs ≡ n * c → length ys ≡ c → cut n c xs ++ ys ∷ [] ≡ cut (n + 1) c (xs ++ ys)
   cut-push zero c xs ys e f =
-      rw (nil_from_length xs (omega arith)) (ap (λ (r : List A). r ∷ []) (take_all c ys (omega arith)))
+      rw (nil_from_length xs (omega arith)) (ap (λ (r : List A). r ∷ []) (sym (take_all c ys (omega arith))))
   cut-push (suc n) c xs ys e f =
       let m : suc n + 1 ≡ suc (n + 1) = omega arith in
       let t : take c (xs ++ ys) ≡ take c xs = take-append-le c xs ys (omega arith) in
@@ -65,37 +64,20 @@ module _ {A : Type 0} where
       let d : drop c (replicate (suc n * c) z) ≡ replicate (n * c) z = drop-replicate c (suc n * c) z ∙ ap (λ k. replicate k z) m in
       rw (t, d, cut-replicate n c z) refl
 
-  -- row k of two lists that agree up to its end
-  same_row : (c p : ℕ) (xs ys : List A) → take (p + c) xs ≡ take (p + c) ys → take c (drop p xs) ≡ take c (drop p ys)
-  same_row c p xs ys e = sym (drop-take p c xs) ∙ ap (drop p) e ∙ drop-take p c ys
-
   -- two lists cut into rows, where ys has row r at a and the rows of xs before and behind
   cut_differs : (n c : ℕ) (xs ys : List A) (a : ℕ) (r : List A) → a < n → take (a * c) ys ≡ take (a * c) xs → take c (drop (a * c) ys) ≡ r → drop (a * c + c) ys ≡ drop (a * c + c) xs → cut n c ys ≡ set (cut n c xs) a r
-  cut_differs n c xs ys a r h below here above =
-      let g = length-cut n c ys in
-      let g' = length-cut n c xs in
-      ext_get_or [] _ _ (g ∙ sym (length-set (cut n c xs) a r ∙ g'))
-      (λ k q. elim (cases_order k a) [
-        | inl same ↦
-            rw same (rw (get_or-cut n c ys a [] h, here) (sym (get_or-set_same (cut n c xs) a r [] (omega arith))))
-        | inr other ↦ elim other [
-          | inl lt ↦
-              (let ne : k ≢ a = omega arith in
-              rw (get_or-cut n c ys k [] (omega arith), get_or-set_other (cut n c xs) a k r [] ne, get_or-cut n c xs k [] (omega arith))
-              (same_row c (k * c) ys xs
-              (sym (take-take (k * c + c) (a * c) ys (row_within a c k lt)) ∙ ap (take (k * c + c)) below
-              ∙ take-take (k * c + c) (a * c) xs (row_within a c k lt))))
-          | inr gt ↦
-              (let ne : k ≢ a = omega arith in
-              let w : a * c + c ≤ k * c = row_within k c a gt in
-              let e : (a * c + c) + (k * c - (a * c + c)) ≡ k * c = omega arith in
-              rw (get_or-cut n c ys k [] (omega arith), get_or-set_other (cut n c xs) a k r [] ne, get_or-cut n c xs k [] (omega arith))
-              (ap (take c)
-              (ap (λ m. drop m ys) (sym e) ∙ sym (drop-drop (k * c - (a * c + c)) (a * c + c) ys)
-              ∙ ap (drop (k * c - (a * c + c))) above ∙ drop-drop (k * c - (a * c + c)) (a * c + c) xs
-              ∙ ap (λ m. drop m xs) e)))
-        ]
-      ])
+  cut_differs zero c xs ys a r h below here above = absurd (omega arith)
+  cut_differs (suc n) c xs ys zero r h below here above =
+      let start : 0 * c ≡ 0 = omega arith in
+      let end : 0 * c + c ≡ c = omega arith in
+      ap₂ (λ (u : List A) (us : List (List A)). u ∷ us) (rw start at here) (ap (cut n c) (rw end at above))
+  cut_differs (suc n) c xs ys (suc a) r h below here above =
+      let start : suc a * c ≡ c + a * c = omega arith in
+      let end : suc a * c + c ≡ c + (a * c + c) = omega arith in
+      let first : take c ys ≡ take c xs = sym (take-take c (suc a * c) ys (omega arith)) ∙ ap (take c) below ∙ take-take c (suc a * c) xs (omega arith) in
+      let low : take (a * c) (drop c ys) ≡ take (a * c) (drop c xs) = sym (drop-take c (a * c) ys) ∙ ap (drop c) (rw start at below) ∙ drop-take c (a * c) xs in
+      let high : drop (a * c + c) (drop c ys) ≡ drop (a * c + c) (drop c xs) = drop-drop (a * c + c) c ys ∙ (rw end at above) ∙ sym (drop-drop (a * c + c) c xs) in
+      ap₂ (λ (u : List A) (us : List (List A)). u ∷ us) first (cut_differs n c (drop c xs) (drop c ys) a r (omega arith) low (ap (take c) (drop-drop (a * c) c ys) ∙ (rw start at here)) high)
 
   -- a write to row a
   pub cut-put_mid : (n c : ℕ) (xs : List A) (a : ℕ) (ys : List A) → length xs ≡ n * c → a < n → length ys ≡ c → cut n c (put_mid (a * c) c xs ys) ≡ set (cut n c xs) a ys
@@ -110,15 +92,16 @@ module _ {A : Type 0} where
       (drop-put_mid (a * c) c xs ys (a * c + c) (omega arith) (omega arith) f)
 
   -- a write to the entry at row i and column j
-  pub cut-set : (n c : ℕ) (xs : List A) (i j : ℕ) (v : A) → i < n → j < c → cut n c (set xs (i * c + j) v) ≡ set (cut n c xs) i (set (get_or (cut n c xs) i []) j v)
+  pub cut-set : (n c : ℕ) (xs : List A) (i j : ℕ) (v : A) → i < n → j < c → set (cut n c xs) i (set (get_or (cut n c xs) i []) j v) ≡ cut n c (set xs (i * c + j) v)
   cut-set n c xs i j v h k =
-      cut_differs n c xs (set xs (i * c + j) v) i (set (get_or (cut n c xs) i []) j v) h
+      sym
+      (cut_differs n c xs (set xs (i * c + j) v) i (set (get_or (cut n c xs) i []) j v) h
       (take-set-le (i * c) xs (i * c + j) v (omega arith))
       (rw (drop-set-add (i * c) xs j v, take-set-lt c (drop (i * c) xs) j v k, get_or-cut n c xs i [] h) refl)
-      (drop-set-lt (i * c + c) xs (i * c + j) v (omega arith))
+      (drop-set-lt (i * c + c) xs (i * c + j) v (omega arith)))
 
   -- the first k rows
-  pub cut-take : (n k c : ℕ) (xs : List A) → k ≤ n → cut k c (take (k * c) xs) ≡ take k (cut n c xs)
+  pub cut-take : (n k c : ℕ) (xs : List A) → k ≤ n → take k (cut n c xs) ≡ cut k c (take (k * c) xs)
   cut-take n zero c xs h = refl
   cut-take zero (suc k) c xs h = absurd (omega arith)
   cut-take (suc n) (suc k) c xs h =
@@ -136,9 +119,6 @@ module _ {A : Type 0} where
   entry_part n c xs z i j s e h k =
       rw (e, get_or-cut n c xs i [] h, get_or-take c (drop (i * c) xs) j z k) (sym (get_or-drop (i * c) xs j z))
 
-  pub entry_written : (n c : ℕ) (xs : List A) (i j s : ℕ) (x : A) → s ≡ i * c → i < n → j < c → cut n c (set xs (s + j) x) ≡ set (cut n c xs) i (set (get_or (cut n c xs) i []) j x)
-  entry_written n c xs i j s x e h k = rw e (cut-set n c xs i j x h k)
-
   pub length-put_mid : (a k : ℕ) (xs ys : List A) → a + k ≤ length xs → length ys ≡ k → length (put_mid a k xs ys) ≡ length xs
   length-put_mid a k xs ys h e =
       let t : length (take a xs) ≡ a = length-take-le a xs (omega arith) in
@@ -150,12 +130,3 @@ module _ {A : Type 0} where
   -- the items of a `Vec` whose slice has been written
   pub items_written : {Z : Type 0} (v : Vec A Z) (zs : List A) → length zs ≡ length v.items → (with_items v zs).items ≡ zs
   items_written v zs l = with_items_is v zs (l ∙ sym v.ok.0)
-
-  -- a write of the whole row
-  pub row_written : {Z : Type 0} (n c : ℕ) (v : Vec A Z) (xs : List A) (i s : ℕ) (ys : List A) → xs ≡ v.items → length v.items ≡ n * c → s ≡ i * c → i < n → length ys ≡ c
-      → cut n c (with_items v (put_mid s ((s + c) - s) xs ys)).items ≡ set (cut n c v.items) i ys
-  row_written n c v xs i s ys same l e h w =
-      let k : (s + c) - s ≡ c = omega arith in
-      let f = row_within n c i h in
-      let m : length (put_mid (i * c) c v.items ys) ≡ length v.items = length-put_mid (i * c) c v.items ys (omega arith) w in
-      rw (k, e, same, items_written v (put_mid (i * c) c v.items ys) m) (cut-put_mid n c v.items i ys l h w)

@@ -7,7 +7,7 @@
 --   ModuleLaws     modules, and dot products, which are linear on both sides: dot-add_left, dot-scale_left, dot-add_right,
 --                  dot-scale_right, dot-append, dot_more, dot_unit, linear-dot (what a linear map makes of one), dot_comm
 --   Modules        field_module, byte_module, vector_module; dot-combination, IsVector-combination
---   MatrixLaws     matrices of entries of one kind, and what a map of the entries makes of each operation
+--   MatrixLaws     matrices of entries of one kind, and what a map of the entries makes of an operation
 --   ProductLaws    apply-product, product_assoc, product-sum_left and _right, apply-identity, product-identity_left,
 --                  entry-product, IsMatrix-product
 --   TransposeLaws  entry-transpose, transpose-transpose, transpose-product, apply-transpose; same_entries: two matrices with
@@ -16,7 +16,8 @@
 --                  kernel_rows, row_space-kernel, kernel-one_row_space, kernel-stacked, add_row_from-zeros
 --   NumberLaws     rows of numbers: number_module, elements-add, elements-times, element-zero_iff
 --
--- The other files say how the rows in memory keep up with these definitions.
+-- The other files say how the rows in memory keep up with these definitions. `rows_steps` of LayoutSteps and `matrix_steps` of
+-- MatrixSteps are what the search takes for the functions of src/rows.rt and src/matrix.rt.
 pub mod VectorLaws
 pub mod ModuleLaws
 pub mod Modules
@@ -28,4 +29,6 @@ pub mod LawRecords
 pub mod NumberLaws
 pub mod EqualLaws
 pub mod LayoutLaws
+pub mod LayoutSteps
 pub mod ByteSteps
+pub mod MatrixSteps

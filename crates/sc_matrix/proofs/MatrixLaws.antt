@@ -1,15 +1,30 @@
 -- Matrices of entries of one kind, and maps of the entries of a matrix.
-use Rattle.std.proofs.Common.{◌≡◌, ℕ, zero as naught, suc, ◌+◌, ◌<◌, List, [], ◌∷◌, length, get_or, set, map, replicate, All, refl, sym, ◌∙◌, ap, ap₂, subst, inl, inr, arith}
+use Rattle.std.proofs.Common.{◌≡◌, ℕ, zero as naught, suc, ◌<◌, List, [], ◌∷◌, length, get_or, set, swap, map, replicate, All, refl, sym, ◌∙◌, ap, ap₂, subst, inl, inr, arith}
 use Rattle.std.specs.List.{range_with_len}
 use Rattle.std.proofs.lemmas.Bool.{cases_lt}
-use Rattle.std.proofs.lemmas.List.{length-map, map-set, take-map, map_push, get_or_past}
-use Rattle.std.proofs.lemmas.List.Elements.{All-map, All-set, All-append, All-take, All-replicate}
-use Rattle.std.proofs.lemmas.List.Edits.{swap_is}
+use Rattle.std.proofs.Math.ListN.{get_or-map}
+use Rattle.std.proofs.lemmas.List.{length-map, map-set, get_or_past}
+use Rattle.std.proofs.lemmas.List.Elements.{All-nil, All-head, All-map, All-set}
 use Rattle.std.proofs.lemmas.List.FromFn.{length-range_with_len, get_or-range_with_len}
 use Rattle.sc_matrix.specs.Vector.{IsVector}
-use Rattle.sc_matrix.specs.Matrix.{Matrix, IsMatrix, row_count, row, entry, column, with_row, with_entry, with_last_row, first_rows, zero_matrix, transpose, submatrix, swap_rows}
+use Rattle.sc_matrix.specs.Matrix.{Matrix, IsMatrix, row_count, row, entry, column, with_row, transpose, submatrix, swap_rows}
 use Rattle.sc_matrix.specs.Layout.{map_matrix}
-use Rattle.sc_matrix.proofs.VectorLaws.{IsVector-map, IsVector-set, IsVector-replicate, entry_at}
+use Rattle.sc_matrix.proofs.VectorLaws.{IsVector-map, map-map, map_ext, entry_at}
+
+-- an entry of a list, also past the end, and two entries exchanged
+any_of : {X : Type 0} (P : X → Type 0) (xs : List X) (i : ℕ) (d : X) → All P xs → P d → P (get_or xs i d)
+any_of P xs i d h hd = elim (cases_lt i (length xs)) [ inl lt ↦ h i d lt | inr past ↦ subst P (sym (get_or_past xs i d past)) hd ]
+
+pub All-swap : {X : Type 0} (P : X → Type 0) (xs : List X) (a b : ℕ) → All P xs → All P (swap xs a b)
+All-swap P [] a b h = h
+All-swap P (x ∷ xs) a b h =
+    let any = λ (i : ℕ). any_of P (x ∷ xs) i x h (All-head P x xs h) in
+    All-set P (set (x ∷ xs) a (get_or (x ∷ xs) b x)) b (get_or (x ∷ xs) a x) (any a) (All-set P (x ∷ xs) a (get_or (x ∷ xs) b x) (any b) h)
+
+pub places_below : (n : ℕ) → IsVector (λ (j : ℕ). j < n) n (range_with_len 0 n)
+places_below n =
+    let l = length-range_with_len 0 n in
+    record { width = l; entries = λ k d h. let is = get_or-range_with_len 0 n k d (omega arith) in omega arith }
 
 -- ---- entries of one kind
 module _ {A : Type 0} {P : A → Type 0} where
@@ -20,38 +35,12 @@ module _ {A : Type 0} {P : A → Type 0} where
   pub IsMatrix-with_row : (m : Matrix A) (i : ℕ) (v : List A) → IsMatrix P m → IsVector P m.cols v → IsMatrix P (with_row m i v)
   IsMatrix-with_row m i v hm hv = record { vectors = All-set (IsVector P m.cols) m.rows i v hv hm.vectors }
 
-  pub IsMatrix-with_last_row : (m : Matrix A) (v : List A) → IsMatrix P m → IsVector P m.cols v → IsMatrix P (with_last_row m v)
-  IsMatrix-with_last_row m v hm hv =
-      record { vectors = All-append (IsVector P m.cols) m.rows (v ∷ []) hm.vectors (IsVector-replicate {P = IsVector P m.cols} 1 v hv).entries }
-
-  pub IsMatrix-first_rows : (m : Matrix A) (n : ℕ) → IsMatrix P m → IsMatrix P (first_rows n m)
-  IsMatrix-first_rows m n hm = record { vectors = All-take (IsVector P m.cols) n m.rows hm.vectors }
-
-  pub IsMatrix-zero_matrix : (zero : A) (n c : ℕ) → P zero → IsMatrix P (zero_matrix zero n c)
-  IsMatrix-zero_matrix zero n c h = record { vectors = All-replicate (IsVector P c) n (replicate c zero) (IsVector-replicate c zero h) }
-
-  pub IsMatrix-swap_rows : (m : Matrix A) (a b : ℕ) → a < row_count m → b < row_count m → IsMatrix P m → IsMatrix P (swap_rows m a b)
-  IsMatrix-swap_rows m a b h k hm = record {
-    vectors =
-        subst (All (IsVector P m.cols)) (swap_is m.rows a b [] h k)
-        (All-set (IsVector P m.cols) (set m.rows a (get_or m.rows b [])) b (get_or m.rows a []) (hm.vectors a [] h)
-        (All-set (IsVector P m.cols) m.rows a (get_or m.rows b []) (hm.vectors b [] k) hm.vectors));
-  }
-
-  pub IsMatrix-with_entry : (m : Matrix A) (i j : ℕ) (x : A) → i < row_count m → IsMatrix P m → P x → IsMatrix P (with_entry m i j x)
-  IsMatrix-with_entry m i j x h hm hx = IsMatrix-with_row m i (set (row m i) j x) hm (IsVector-set (row m i) j x (hm.vectors i [] h) hx)
+  pub IsMatrix-swap_rows : (m : Matrix A) (a b : ℕ) → IsMatrix P m → IsMatrix P (swap_rows m a b)
+  IsMatrix-swap_rows m a b hm = record { vectors = All-swap (IsVector P m.cols) m.rows a b hm.vectors }
 
   -- an entry is of the kind, also past the end
   pub entry_kind : (m : Matrix A) (i j : ℕ) (d : A) → IsMatrix P m → P d → P (entry d m i j)
-  entry_kind m i j d hm hd =
-      elim (cases_lt i (row_count m)) [
-        | inl lt ↦
-            elim (cases_lt j (length (row m i))) [
-              | inl within ↦ (hm.vectors i [] lt).entries j d within
-              | inr past ↦ subst P (sym (get_or_past (row m i) j d past)) hd
-            ]
-        | inr past ↦ subst P (sym (ap (λ (r : List A). get_or r j d) (get_or_past m.rows i [] past))) hd
-      ]
+  entry_kind m i j d hm hd = any_of P (row m i) j d (any_of (All P) m.rows i [] (λ k e h. (hm.vectors k e h).entries) (All-nil P)) hd
 
   pub elements-column : (zero : A) (m : Matrix A) (j : ℕ) → IsMatrix P m → j < m.cols → IsVector P (row_count m) (column zero m j)
   elements-column zero m j hm h = record {
@@ -60,14 +49,7 @@ module _ {A : Type 0} {P : A → Type 0} where
   }
 
   pub IsMatrix-transpose : (zero : A) (m : Matrix A) → IsMatrix P m → IsMatrix P (transpose zero m)
-  IsMatrix-transpose zero m hm =
-      let n = length-range_with_len 0 m.cols in
-      record {
-        vectors =
-            All-map (IsVector P (row_count m)) (column zero m) (range_with_len 0 m.cols)
-            (λ k d h. let e : get_or (range_with_len 0 m.cols) k d ≡ 0 + k = get_or-range_with_len 0 m.cols k d (omega arith) in
-            elements-column zero m (get_or (range_with_len 0 m.cols) k d) hm (omega arith));
-      }
+  IsMatrix-transpose zero m hm = record { vectors = (IsVector-map {Q = IsVector P (row_count m)} (column zero m) (range_with_len 0 m.cols) (λ j h. elements-column zero m j hm h) (places_below m.cols)).entries }
 
   pub IsMatrix-submatrix : (zero : A) (m : Matrix A) (is js : List ℕ) → IsMatrix P m → P zero → IsMatrix P (submatrix zero m is js)
   IsMatrix-submatrix zero m is js hm hz = record {
@@ -84,9 +66,11 @@ module _ {A B : Type 0} (f : A → B) where
 
   -- an entry, also past the end
   pub get_or-map_all : (xs : List A) (i : ℕ) (d : A) (e : B) → f d ≡ e → get_or (map f xs) i e ≡ f (get_or xs i d)
-  get_or-map_all [] i d e h = sym h
-  get_or-map_all (x ∷ xs) naught d e h = refl
-  get_or-map_all (x ∷ xs) (suc i) d e h = get_or-map_all xs i d e h
+  get_or-map_all xs i d e h = rw (← h) (get_or-map f xs i d)
+
+  pub map-replicate : (n : ℕ) (x : A) → map f (replicate n x) ≡ replicate n (f x)
+  map-replicate naught x = refl
+  map-replicate (suc n) x = ap (λ (ys : List B). f x ∷ ys) (map-replicate n x)
 
   pub IsMatrix-map : {P : A → Type 0} (Q : B → Type 0) (m : Matrix A) → ((x : A) → P x → Q (f x)) → IsMatrix P m → IsMatrix Q (map_matrix f m)
   IsMatrix-map Q m each hm = record {
@@ -94,70 +78,21 @@ module _ {A B : Type 0} (f : A → B) where
   }
 
   pub map-with_row : (m : Matrix A) (i : ℕ) (v : List A) → map_matrix f (with_row m i v) ≡ with_row (map_matrix f m) i (map f v)
-  map-with_row m i v = ap (λ (rows : List (List B)). let k : Matrix B = record { cols = m.cols; rows = rows } in k) (map-set (map f) m.rows i v)
-
-  pub map-with_last_row : (m : Matrix A) (v : List A) → map_matrix f (with_last_row m v) ≡ with_last_row (map_matrix f m) (map f v)
-  map-with_last_row m v = ap (λ (rows : List (List B)). let k : Matrix B = record { cols = m.cols; rows = rows } in k) (map_push (map f) m.rows v)
-
-  pub map-first_rows : (m : Matrix A) (n : ℕ) → map_matrix f (first_rows n m) ≡ first_rows n (map_matrix f m)
-  map-first_rows m n = ap (λ (rows : List (List B)). let k : Matrix B = record { cols = m.cols; rows = rows } in k) (sym (take-map (map f) n m.rows))
-
-  pub map-replicate : (n : ℕ) (x : A) → map f (replicate n x) ≡ replicate n (f x)
-  map-replicate naught x = refl
-  map-replicate (suc n) x = ap (λ (ys : List B). f x ∷ ys) (map-replicate n x)
+  map-with_row m i v = simp map-set
 
   pub row-map : (m : Matrix A) (i : ℕ) → row (map_matrix f m) i ≡ map f (row m i)
-  row-map m i = rows m.rows i where
-    rows : (rs : List (List A)) (k : ℕ) → get_or (map (map f) rs) k [] ≡ map f (get_or rs k [])
-    rows [] k = refl
-    rows (r ∷ rs) naught = refl
-    rows (r ∷ rs) (suc k) = rows rs k
+  row-map m i = get_or-map (map f) m.rows i []
 
   pub entry-map : (m : Matrix A) (i j : ℕ) (d : A) (e : B) → f d ≡ e → entry e (map_matrix f m) i j ≡ f (entry d m i j)
   entry-map m i j d e h = ap (λ (r : List B). get_or r j e) (row-map m i) ∙ get_or-map_all (row m i) j d e h
 
-  pub map-with_entry : (m : Matrix A) (i j : ℕ) (x : A) → map_matrix f (with_entry m i j x) ≡ with_entry (map_matrix f m) i j (f x)
-  map-with_entry m i j x =
-      map-with_row m i (set (row m i) j x) ∙ ap (with_row (map_matrix f m) i) (map-set f (row m i) j x ∙ ap (λ (r : List B). set r j (f x)) (sym (row-map m i)))
-
-  pub map-swap_rows : (m : Matrix A) (a b : ℕ) → a < row_count m → b < row_count m → map_matrix f (swap_rows m a b) ≡ swap_rows (map_matrix f m) a b
-  map-swap_rows m a b h k =
-      let n = row_count-map m in
-      ap (λ (rows : List (List B)). let r : Matrix B = record { cols = m.cols; rows = rows } in r)
-      (ap (map (map f)) (sym (swap_is m.rows a b [] h k)) ∙ map-set (map f) (set m.rows a (row m b)) b (row m a)
-      ∙ ap₂ (λ (rs : List (List B)) (r : List B). set rs b r) (map-set (map f) m.rows a (row m b) ∙ ap (set (map (map f) m.rows) a) (sym (row-map m b))) (sym (row-map m a))
-      ∙ swap_is (map (map f) m.rows) a b [] (omega arith) (omega arith))
-
-  pub map-zero_matrix : (n c : ℕ) (d : A) (e : B) → f d ≡ e → map_matrix f (zero_matrix d n c) ≡ zero_matrix e n c
-  map-zero_matrix n c d e h =
-      ap (λ (rows : List (List B)). let r : Matrix B = record { cols = c; rows = rows } in r) (rows n ∙ ap (replicate n) (zeros c)) where
-        zeros : (k : ℕ) → map f (replicate k d) ≡ replicate k e
-        zeros naught = refl
-        zeros (suc k) = ap₂ (λ (y : B) (ys : List B). y ∷ ys) h (zeros k)
-
-        rows : (k : ℕ) → map (map f) (replicate k (replicate c d)) ≡ replicate k (map f (replicate c d))
-        rows naught = refl
-        rows (suc k) = ap (λ (ys : List (List B)). map f (replicate c d) ∷ ys) (rows k)
-
-  pub map-column : (m : Matrix A) (j : ℕ) (d : A) (e : B) → f d ≡ e → map f (column d m j) ≡ column e (map_matrix f m) j
-  map-column m j d e h = rows m.rows where
-    rows : (rs : List (List A)) → map f (map (λ (r : List A). get_or r j d) rs) ≡ map (λ (r : List B). get_or r j e) (map (map f) rs)
-    rows [] = refl
-    rows (r ∷ rs) = ap₂ (λ (y : B) (ys : List B). y ∷ ys) (sym (get_or-map_all r j d e h)) (rows rs)
-
   pub map-transpose : (m : Matrix A) (d : A) (e : B) → f d ≡ e → map_matrix f (transpose d m) ≡ transpose e (map_matrix f m)
   map-transpose m d e h =
-      ap₂ (λ (c : ℕ) (rows : List (List B)). let r : Matrix B = record { cols = c; rows = rows } in r) (sym (row_count-map m)) (columns (range_with_len 0 m.cols)) where
-        columns : (js : List ℕ) → map (map f) (map (column d m) js) ≡ map (column e (map_matrix f m)) js
-        columns [] = refl
-        columns (j ∷ js) = ap₂ (λ (y : List B) (ys : List (List B)). y ∷ ys) (map-column m j d e h) (columns js)
+      ap₂ (λ (c : ℕ) (rows : List (List B)). let r : Matrix B = record { cols = c; rows = rows } in r) (sym (row_count-map m))
+      (map-map (map f) (column d m) (range_with_len 0 m.cols) ∙ map_ext _ _ (range_with_len 0 m.cols) (λ j.
+      map-map f (λ (r : List A). get_or r j d) m.rows ∙ map_ext _ _ m.rows (λ r. sym (get_or-map_all r j d e h)) ∙ sym (map-map (λ (r : List B). get_or r j e) (map f) m.rows)))
 
   pub map-submatrix : (m : Matrix A) (is js : List ℕ) (d : A) (e : B) → f d ≡ e → map_matrix f (submatrix d m is js) ≡ submatrix e (map_matrix f m) is js
-  map-submatrix m is js d e h = ap (λ (rows : List (List B)). let r : Matrix B = record { cols = length js; rows = rows } in r) (rows is) where
-    places : (i : ℕ) (ks : List ℕ) → map f (map (entry d m i) ks) ≡ map (entry e (map_matrix f m) i) ks
-    places i [] = refl
-    places i (k ∷ ks) = ap₂ (λ (y : B) (ys : List B). y ∷ ys) (sym (entry-map m i k d e h)) (places i ks)
-
-    rows : (ks : List ℕ) → map (map f) (map (λ (i : ℕ). map (entry d m i) js) ks) ≡ map (λ (i : ℕ). map (entry e (map_matrix f m) i) js) ks
-    rows [] = refl
-    rows (k ∷ ks) = ap₂ (λ (y : List B) (ys : List (List B)). y ∷ ys) (places k js) (rows ks)
+  map-submatrix m is js d e h =
+      ap (λ (rows : List (List B)). let r : Matrix B = record { cols = length js; rows = rows } in r)
+      (map-map (map f) (λ (i : ℕ). map (entry d m i) js) is ∙ map_ext _ _ is (λ i. map-map f (entry d m i) js ∙ map_ext _ _ js (λ j. sym (entry-map m i j d e h))))

@@ -26,27 +26,6 @@ module _ {C A : Type 0} {IsElement : C → Type 0} {zero one : C} {add sub mul :
       ap (times x) (sym (ml.times_zero none ml.none_value)) ∙ sym (ml.times_mul x zero none hx laws.zero_element ml.none_value)
       ∙ ap (λ (y : C). times y none) (mul_zero laws x hx) ∙ ml.times_zero none ml.none_value
 
-  -- the negative of a value
-  abbrev pub negative : A → A
-  negative v = times (sub zero one) v
-
-  pub minus_element : IsElement (sub zero one)
-  minus_element = laws.sub_element zero one laws.zero_element laws.one_element
-
-  pub value-negative : (v : A) → IsValue v → IsValue (negative v)
-  value-negative v hv = ml.times_value (sub zero one) v minus_element hv
-
-  pub negative_plus : (v : A) → IsValue v → plus (negative v) v ≡ none
-  negative_plus v hv =
-      ap (plus (negative v)) (sym (ml.times_one v hv)) ∙ sym (ml.times_add (sub zero one) one v minus_element laws.one_element hv)
-      ∙ ap (λ (y : C). times y v) (laws.sub_add zero one laws.zero_element laws.one_element) ∙ ml.times_zero v hv
-
-  pub plus_cancel : (u v w : A) → IsValue u → IsValue v → IsValue w → plus u v ≡ plus u w → v ≡ w
-  plus_cancel u v w hu hv hw e =
-      let back : (a : A) → IsValue a → plus (negative u) (plus u a) ≡ a =
-      λ a ha. sym (ml.plus_assoc (negative u) u a (value-negative u hu) hu ha) ∙ ap (λ (b : A). plus b a) (negative_plus u hu) ∙ none_plus a ha in
-      sym (back v hv) ∙ ap (plus (negative u)) e ∙ back w hw
-
   pub inv_times : (x : C) (v : A) → IsElement x → IsValue v → x ≢ zero → times (inv x) (times x v) ≡ v
   inv_times x v hx hv h =
       sym (ml.times_mul (inv x) x v (laws.inv_element x hx h) hx hv) ∙ ap (λ (y : C). times y v) (inv_mul laws x hx h) ∙ ml.times_one v hv
@@ -64,33 +43,37 @@ module _ {C A : Type 0} {IsElement : C → Type 0} {zero one : C} {add sub mul :
       ∙ ml.times_zero w hw)
       ∙ ml.plus_none u hu
 
+  pub plus_cancel : (u v w : A) → IsValue u → IsValue v → IsValue w → plus u v ≡ plus u w → v ≡ w
+  plus_cancel u v w hu hv hw e =
+      let minus : A → A = λ (a : A). plus a (times (sub zero one) u) in
+      let back : (a : A) → IsValue a → minus (plus u a) ≡ a =
+      λ a ha. ap minus (ml.plus_comm u a hu ha ∙ ap (plus a) (sym (ml.times_one u hu))) ∙ plus_times_back one a u laws.one_element ha hu in
+      sym (back v hv) ∙ ap minus e ∙ back w hw
+
   pub times_comm : (x y : C) (v : A) → IsElement x → IsElement y → IsValue v → times x (times y v) ≡ times y (times x v)
   times_comm x y v hx hy hv =
       sym (ml.times_mul x y v hx hy hv) ∙ ap (λ (z : C). times z v) (laws.mul_comm x y hx hy) ∙ ml.times_mul y x v hy hx hv
 
   -- ---- dot products
   pub value-dot : (cs : List C) (vs : List A) {p q : ℕ} → IsVector IsElement p cs → IsVector IsValue q vs → IsValue (dot none plus times cs vs)
-  value-dot [] vs hc hv = ml.none_value
-  value-dot (c ∷ cs) [] hc hv = ml.none_value
   value-dot (c ∷ cs) (v ∷ vs) hc hv = ml.plus_value _ _ (ml.times_value c v (head hc) (head hv)) (value-dot cs vs (tail hc) (tail hv))
+  value-dot cs vs hc hv = ml.none_value
 
   -- what a linear map makes of a dot product
   pub linear-dot : {B : Type 0} {none' : B} {plus' : B → B → B} {times' : C → B → B} {f : A → B} → IsLinear IsElement IsValue none plus times none' plus' times' f
       → (cs : List C) (vs : List A) {p q : ℕ} → IsVector IsElement p cs → IsVector IsValue q vs → f (dot none plus times cs vs) ≡ dot none' plus' times' cs (map f vs)
-  linear-dot lin [] vs hc hv = lin.of_none
-  linear-dot lin (c ∷ cs) [] hc hv = lin.of_none
   linear-dot {plus' = plus'} lin (c ∷ cs) (v ∷ vs) hc hv =
       lin.of_plus _ _ (ml.times_value c v (head hc) (head hv)) (value-dot cs vs (tail hc) (tail hv))
       ∙ ap₂ plus' (lin.of_times c v (head hc) (head hv)) (linear-dot lin cs vs (tail hc) (tail hv))
+  linear-dot lin cs vs hc hv = lin.of_none
 
   pub dot_zero_left : (n : ℕ) (vs : List A) {q : ℕ} → IsVector IsValue q vs → dot none plus times (replicate n zero) vs ≡ none
-  dot_zero_left naught vs hv = refl
-  dot_zero_left (suc n) [] hv = refl
   dot_zero_left (suc n) (v ∷ vs) hv = ap₂ plus (ml.times_zero v (head hv)) (dot_zero_left n vs (tail hv)) ∙ ml.plus_none none ml.none_value
+  dot_zero_left n vs hv = refl
 
   pub dot_zero_right : (n : ℕ) (cs : List C) {p : ℕ} → IsVector IsElement p cs → dot none plus times cs (replicate n none) ≡ none
-  dot_zero_right n [] hc = refl
-  dot_zero_right naught (c ∷ cs) hc = refl
+  dot_zero_right naught cs hc = dot_nil_right none plus times cs
+  dot_zero_right (suc n) [] hc = refl
   dot_zero_right (suc n) (c ∷ cs) hc = ap₂ plus (times_none c (head hc)) (dot_zero_right n cs (tail hc)) ∙ ml.plus_none none ml.none_value
 
   -- zeros at the back of the scalars, and in front of them
@@ -134,32 +117,29 @@ module _ {C A : Type 0} {IsElement : C → Type 0} {zero one : C} {add sub mul :
   pub dot-add_left : (cs ds : List C) (vs : List A) {p q : ℕ} → IsVector IsElement p cs → IsVector IsElement p ds → IsVector IsValue q vs
       → dot none plus times (add_vectors add cs ds) vs ≡ plus (dot none plus times cs vs) (dot none plus times ds vs)
   dot-add_left [] [] vs hc hd hv = sym (ml.plus_none none ml.none_value)
-  dot-add_left [] (d ∷ ds) vs {p = p} hc hd hv = let a = hc.width in let b = hd.width in absurd (omega arith)
-  dot-add_left (c ∷ cs) [] vs {p = p} hc hd hv = let a = hc.width in let b = hd.width in absurd (omega arith)
   dot-add_left (c ∷ cs) (d ∷ ds) [] hc hd hv = sym (ml.plus_none none ml.none_value)
   dot-add_left (c ∷ cs) (d ∷ ds) (v ∷ vs) hc hd hv =
       ap₂ plus (ml.times_add c d v (head hc) (head hd) (head hv)) (dot-add_left cs ds vs (tail hc) (tail hd) (tail hv))
       ∙ plus_four (times c v) (times d v) (dot none plus times cs vs) (dot none plus times ds vs) (ml.times_value c v (head hc) (head hv)) (ml.times_value d v (head hd) (head hv))
       (value-dot cs vs (tail hc) (tail hv)) (value-dot ds vs (tail hd) (tail hv))
+  dot-add_left cs ds vs hc hd hv = absurd (omega (arith, hc.width, hd.width))
 
   pub dot-scale_left : (k : C) (cs : List C) (vs : List A) {p q : ℕ} → IsElement k → IsVector IsElement p cs → IsVector IsValue q vs
       → dot none plus times (scale_vector mul k cs) vs ≡ times k (dot none plus times cs vs)
-  dot-scale_left k [] vs hk hc hv = sym (times_none k hk)
-  dot-scale_left k (c ∷ cs) [] hk hc hv = sym (times_none k hk)
   dot-scale_left k (c ∷ cs) (v ∷ vs) hk hc hv =
       ap₂ plus (ml.times_mul k c v hk (head hc) (head hv)) (dot-scale_left k cs vs hk (tail hc) (tail hv))
       ∙ sym (ml.times_plus k (times c v) (dot none plus times cs vs) hk (ml.times_value c v (head hc) (head hv)) (value-dot cs vs (tail hc) (tail hv)))
+  dot-scale_left k cs vs hk hc hv = sym (times_none k hk)
 
   pub dot-add_right : (cs : List C) (vs ws : List A) {p q : ℕ} → IsVector IsElement p cs → IsVector IsValue q vs → IsVector IsValue q ws
       → dot none plus times cs (add_vectors plus vs ws) ≡ plus (dot none plus times cs vs) (dot none plus times cs ws)
   dot-add_right [] vs ws hc hv hw = sym (ml.plus_none none ml.none_value)
   dot-add_right (c ∷ cs) [] [] hc hv hw = sym (ml.plus_none none ml.none_value)
-  dot-add_right (c ∷ cs) [] (w ∷ ws) {q = q} hc hv hw = let a = hv.width in let b = hw.width in absurd (omega arith)
-  dot-add_right (c ∷ cs) (v ∷ vs) [] {q = q} hc hv hw = let a = hv.width in let b = hw.width in absurd (omega arith)
   dot-add_right (c ∷ cs) (v ∷ vs) (w ∷ ws) hc hv hw =
       ap₂ plus (ml.times_plus c v w (head hc) (head hv) (head hw)) (dot-add_right cs vs ws (tail hc) (tail hv) (tail hw))
       ∙ plus_four (times c v) (times c w) (dot none plus times cs vs) (dot none plus times cs ws) (ml.times_value c v (head hc) (head hv)) (ml.times_value c w (head hc) (head hw))
       (value-dot cs vs (tail hc) (tail hv)) (value-dot cs ws (tail hc) (tail hw))
+  dot-add_right cs vs ws hc hv hw = absurd (omega (arith, hv.width, hw.width))
 
   -- a product with a scalar is linear
   times_linear : (k : C) → IsElement k → IsLinear IsElement IsValue none plus times none plus times (times k)
@@ -177,11 +157,10 @@ module _ {C A : Type 0} {IsElement : C → Type 0} {zero one : C} {add sub mul :
   pub dot-append : (cs ds : List C) (vs ws : List A) {p q r s : ℕ} → length cs ≡ length vs → IsVector IsElement p cs → IsVector IsElement q ds → IsVector IsValue r vs → IsVector IsValue s ws
       → dot none plus times (cs ++ ds) (vs ++ ws) ≡ plus (dot none plus times cs vs) (dot none plus times ds ws)
   dot-append [] ds [] ws e hc hd hv hw = sym (none_plus _ (value-dot ds ws hd hw))
-  dot-append [] ds (v ∷ vs) ws e hc hd hv hw = absurd (omega arith)
-  dot-append (c ∷ cs) ds [] ws e hc hd hv hw = absurd (omega arith)
   dot-append (c ∷ cs) ds (v ∷ vs) ws e hc hd hv hw =
       ap (plus (times c v)) (dot-append cs ds vs ws (omega arith) (tail hc) hd (tail hv) hw)
       ∙ sym (ml.plus_assoc (times c v) (dot none plus times cs vs) (dot none plus times ds ws) (ml.times_value c v (head hc) (head hv)) (value-dot cs vs (tail hc) (tail hv)) (value-dot ds ws hd hw))
+  dot-append cs ds vs ws e hc hd hv hw = absurd (omega arith)
 
   -- the first n + 1 terms
   pub dot_more : {p q : ℕ} (cs : List C) (vs : List A) (n : ℕ) → IsVector IsElement p cs → IsVector IsValue q vs → n < p → n < q
@@ -201,17 +180,15 @@ module _ {C A : Type 0} {IsElement : C → Type 0} {zero one : C} {add sub mul :
 
   -- with a unit vector it is the value at its place
   pub dot_unit : (n i : ℕ) (vs : List A) → IsVector IsValue n vs → i < n → dot none plus times (unit_vector zero one n i) vs ≡ get_or vs i none
-  dot_unit naught i vs hv h = absurd (omega arith)
-  dot_unit (suc n) i [] hv h = let w = hv.width in absurd (omega arith)
   dot_unit (suc n) naught (v ∷ vs) hv h = ap₂ plus (ml.times_one v (head hv)) (dot_zero_left n vs (tail hv)) ∙ ml.plus_none v (head hv)
   dot_unit (suc n) (suc i) (v ∷ vs) hv h =
-      let t : IsVector IsValue n vs = record { width = (let w = hv.width in omega arith); entries = (tail hv).entries } in
+      let t : IsVector IsValue n vs = record { width = omega (arith, hv.width); entries = (tail hv).entries } in
       ap₂ plus (ml.times_zero v (head hv)) (dot_unit n i vs t (omega arith)) ∙ none_plus (get_or vs i none) (entry_at i none t (omega arith))
+  dot_unit n i vs hv h = absurd (omega (arith, hv.width))
 
 -- the dot product with a vector of elements on the right
 module _ {A : Type 0} {IsElement : A → Type 0} {zero one : A} {add sub mul : A → A → A} {inv : A → A} (laws : IsField IsElement zero one add sub mul inv) where
   pub dot_comm : (xs ys : List A) {p q : ℕ} → IsVector IsElement p xs → IsVector IsElement q ys → dot zero add mul xs ys ≡ dot zero add mul ys xs
-  dot_comm [] [] a b = refl
-  dot_comm [] (y ∷ ys) a b = refl
-  dot_comm (x ∷ xs) [] a b = refl
   dot_comm (x ∷ xs) (y ∷ ys) a b = ap₂ add (laws.mul_comm x y (head a) (head b)) (dot_comm xs ys (tail a) (tail b))
+  dot_comm [] ys a b = sym (dot_nil_right zero add mul ys)
+  dot_comm (x ∷ xs) [] a b = refl

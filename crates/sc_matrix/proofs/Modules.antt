@@ -1,14 +1,14 @@
 -- The modules of this crate over a field: the field itself, its action on bytes, and the vectors of n values of a module.
-use Rattle.std.proofs.Common.{◌≡◌, ℕ, zero as naught, suc, ◌+◌, ◌<◌, List, [], ◌∷◌, length, get_or, map, take, replicate, bit_xor, refl, sym, ◌∙◌, ap, ap₂, arith}
+use Rattle.std.proofs.Common.{◌≡◌, ℕ, zero as naught, suc, List, [], ◌∷◌, length, map, replicate, bit_xor, refl, sym, ◌∙◌, ap₂, arith}
 use Rattle.std.specs.Int.Bits.{xor_assoc, xor_zero_r, xor_zero_l}
 use Rattle.std.proofs.lemmas.Nat.{xor_comm, xor_of_8}
-use Rattle.std.proofs.lemmas.List.{map-id, get_or_default}
+use Rattle.std.proofs.lemmas.List.{map-id}
 use Rattle.sc_field.specs.Field.{IsField, IsAction}
 use Rattle.sc_field.specs.FieldLemmas.{add_mul, zero_mul, one_mul}
 use Rattle.sc_matrix.specs.Module.{IsModule, IsLinear, IsByte}
 use Rattle.sc_matrix.specs.Vector.{IsVector, add_vectors, scale_vector, dot, combination}
-use Rattle.sc_matrix.proofs.VectorLaws.{head, tail, map_same, map_const, map-plus, map-map, map-add_vectors, IsVector-replicate, IsVector-add_vectors, IsVector-map}
-use Rattle.sc_matrix.proofs.ModuleLaws.{value-dot, linear-dot, dot_zero_left, dot-add_left, dot-scale_left, dot_more}
+use Rattle.sc_matrix.proofs.VectorLaws.{add_vectors-none, head, tail, map_same, map_const, map-plus, map-map, map-add_vectors, IsVector-replicate, IsVector-add_vectors, IsVector-map}
+use Rattle.sc_matrix.proofs.ModuleLaws.{value-dot, linear-dot, dot_zero_left, dot-add_left, dot-scale_left}
 
 module _ {A : Type 0} {IsElement : A → Type 0} {zero one : A} {add sub mul : A → A → A} {inv : A → A} (laws : IsField IsElement zero one add sub mul inv) where
   pub field_module : IsModule IsElement zero one add mul IsElement zero add mul
@@ -44,24 +44,14 @@ byte_module action = record {
 -- ---- vectors of n values of a module
 module _ {C A : Type 0} {IsElement : C → Type 0} {zero one : C} {add mul : C → C → C} {IsValue : A → Type 0} {none : A} {plus : A → A → A} {times : C → A → A} (ml : IsModule IsElement zero one add mul IsValue none plus times) where
   vectors_comm : (us vs : List A) {n : ℕ} → IsVector IsValue n us → IsVector IsValue n vs → add_vectors plus us vs ≡ add_vectors plus vs us
-  vectors_comm [] [] hu hv = refl
-  vectors_comm [] (v ∷ vs) hu hv = refl
-  vectors_comm (u ∷ us) [] hu hv = refl
   vectors_comm (u ∷ us) (v ∷ vs) hu hv = ap₂ (λ (x : A) (xs : List A). x ∷ xs) (ml.plus_comm u v (head hu) (head hv)) (vectors_comm us vs (tail hu) (tail hv))
+  vectors_comm [] [] hu hv = refl
+  vectors_comm us vs hu hv = absurd (omega (arith, hu.width, hv.width))
 
   vectors_assoc : (us vs ws : List A) {n : ℕ} → IsVector IsValue n us → IsVector IsValue n vs → IsVector IsValue n ws → add_vectors plus (add_vectors plus us vs) ws ≡ add_vectors plus us (add_vectors plus vs ws)
-  vectors_assoc [] vs ws hu hv hw = refl
-  vectors_assoc (u ∷ us) [] ws hu hv hw = refl
-  vectors_assoc (u ∷ us) (v ∷ vs) [] hu hv hw = refl
   vectors_assoc (u ∷ us) (v ∷ vs) (w ∷ ws) hu hv hw =
       ap₂ (λ (x : A) (xs : List A). x ∷ xs) (ml.plus_assoc u v w (head hu) (head hv) (head hw)) (vectors_assoc us vs ws (tail hu) (tail hv) (tail hw))
-
-  vectors_none : (n : ℕ) (vs : List A) → IsVector IsValue n vs → add_vectors plus vs (replicate n none) ≡ vs
-  vectors_none n [] hv = refl
-  vectors_none naught (v ∷ vs) hv = let w = hv.width in absurd (omega arith)
-  vectors_none (suc n) (v ∷ vs) hv =
-      let t : IsVector IsValue n vs = record { width = (let w = hv.width in omega arith); entries = (tail hv).entries } in
-      ap₂ (λ (x : A) (xs : List A). x ∷ xs) (ml.plus_none v (head hv)) (vectors_none n vs t)
+  vectors_assoc us vs ws hu hv hw = refl
 
   pub vector_module : (n : ℕ) → IsModule IsElement zero one add mul (IsVector IsValue n) (replicate n none) (add_vectors plus) (scale_vector times)
   vector_module n = record {
@@ -70,7 +60,7 @@ module _ {C A : Type 0} {IsElement : C → Type 0} {zero one : C} {add mul : C �
     times_value = λ x v hx hv. IsVector-map (times x) v (λ y hy. ml.times_value x y hx hy) hv;
     plus_comm = λ u v hu hv. vectors_comm u v hu hv;
     plus_assoc = λ u v w hu hv hw. vectors_assoc u v w hu hv hw;
-    plus_none = λ v hv. vectors_none n v hv;
+    plus_none = λ v hv. add_vectors-none plus none v ml.plus_none hv;
     times_one = λ v hv. map_same (times one) (λ (y : A). y) v ml.times_one hv ∙ map-id v;
     times_zero = λ v hv. map_const (times zero) none v ml.times_zero hv;
     times_plus = λ x u v hx hu hv. map-add_vectors plus plus (times x) u v (λ a b ha hb. ml.times_plus x a b hx ha hb) hu hv;
@@ -98,31 +88,13 @@ module _ {C A : Type 0} {IsElement : C → Type 0} {zero one : C} {add sub mul :
 
 -- bytes alone: no premise on their size
 pub vectors_none-bytes : (n : ℕ) (vs : List ℕ) → length vs ≡ n → add_vectors bit_xor vs (replicate n 0) ≡ vs
-vectors_none-bytes n [] e = refl
-vectors_none-bytes naught (v ∷ vs) e = absurd (omega arith)
-vectors_none-bytes (suc n) (v ∷ vs) e = ap₂ (λ (x : ℕ) (xs : List ℕ). x ∷ xs) (xor_zero_r v) (vectors_none-bytes n vs (omega arith))
+vectors_none-bytes n vs e = add_vectors-none {P = λ (x : ℕ). Unit {0}} bit_xor 0 vs (λ v u. xor_zero_r v) (record { width = e; entries = λ k d h. tt })
 
 pub vectors_none_left-bytes : (n : ℕ) (vs : List ℕ) → length vs ≡ n → add_vectors bit_xor (replicate n 0) vs ≡ vs
 vectors_none_left-bytes naught [] e = refl
-vectors_none_left-bytes (suc n) [] e = absurd (omega arith)
-vectors_none_left-bytes naught (v ∷ vs) e = absurd (omega arith)
 vectors_none_left-bytes (suc n) (v ∷ vs) e = ap₂ (λ (x : ℕ) (xs : List ℕ). x ∷ xs) (xor_zero_l v) (vectors_none_left-bytes n vs (omega arith))
+vectors_none_left-bytes n vs e = absurd (omega arith)
 
-vectors_assoc-bytes : (us vs ws : List ℕ) → add_vectors bit_xor (add_vectors bit_xor us vs) ws ≡ add_vectors bit_xor us (add_vectors bit_xor vs ws)
-vectors_assoc-bytes [] vs ws = refl
-vectors_assoc-bytes (u ∷ us) [] ws = refl
-vectors_assoc-bytes (u ∷ us) (v ∷ vs) [] = refl
+pub vectors_assoc-bytes : (us vs ws : List ℕ) → add_vectors bit_xor (add_vectors bit_xor us vs) ws ≡ add_vectors bit_xor us (add_vectors bit_xor vs ws)
 vectors_assoc-bytes (u ∷ us) (v ∷ vs) (w ∷ ws) = ap₂ (λ (x : ℕ) (xs : List ℕ). x ∷ xs) (xor_assoc u v w) (vectors_assoc-bytes us vs ws)
-
-module _ {A : Type 0} {IsElement : A → Type 0} {zero one : A} {add sub mul : A → A → A} {inv : A → A} {act : A → ℕ → ℕ} (laws : IsField IsElement zero one add sub mul inv) (action : IsAction IsElement zero one add mul act) where
-  -- one row more of a combination of rows of bytes that is added to xs
-  pub combination_more : {p q : ℕ} (n : ℕ) (xs : List ℕ) (cs : List A) (vs : List (List ℕ)) (k : ℕ) → IsVector IsElement p cs → IsVector (IsVector IsByte n) q vs → k < p → k < q
-      → add_vectors bit_xor (add_vectors bit_xor xs (combination 0 bit_xor act n (take k cs) (take k vs))) (scale_vector act (get_or cs k zero) (get_or vs k []))
-      ≡ add_vectors bit_xor xs (combination 0 bit_xor act n (take (k + 1) cs) (take (k + 1) vs))
-  combination_more {q = q} n xs cs vs k hc hv h l =
-      let wv = hv.width in
-      let same : get_or vs k [] ≡ get_or vs k (replicate n 0) = get_or_default vs k [] (replicate n 0) (omega arith) in
-      vectors_assoc-bytes xs (combination 0 bit_xor act n (take k cs) (take k vs)) (scale_vector act (get_or cs k zero) (get_or vs k []))
-      ∙ ap (add_vectors bit_xor xs)
-      (ap (λ (v : List ℕ). add_vectors bit_xor (combination 0 bit_xor act n (take k cs) (take k vs)) (scale_vector act (get_or cs k zero) v)) same
-      ∙ sym (dot_more laws (vector_module (byte_module action) n) cs vs k hc hv h l))
+vectors_assoc-bytes us vs ws = refl

@@ -1,30 +1,29 @@
 -- Numbers of elements as a module, and what the operations on rows of numbers are on the matrix of the elements. The laws
 -- come first: under a bound `F: Field` they are `g.met.F.Field.field`, `.action`, `.numbered` and `.by_number`.
-use Rattle.std.proofs.Common.{◌≡◌, ◌↔◌, ℕ, ◌<◌, ◌≤◌, ◌+◌, List, [], ◌∷◌, ◌++◌, All, Option, None, Some, MatchOption, length, get_or, map, take, drop, replicate, bit_xor, refl, sym, ◌∙◌, ap, ap₂, subst, arith}
+use Rattle.std.proofs.Common.{◌≡◌, ◌↔◌, ℕ, ◌<◌, ◌≤◌, List, [], ◌++◌, All, Option, None, Some, MatchOption, length, get_or, map, take, drop, replicate, bit_xor, refl, sym, ◌∙◌, ap, ap₂, subst, arith}
 use Rattle.std.specs.Int.Bits.{xor_zero_r}
-use Rattle.std.proofs.lemmas.List.{map-append, take-map, drop-map, take_more, take_all, length-take-le, length-map, length-replicate, get_or-map, get_or-replicate, ext_get_or}
-use Rattle.std.proofs.lemmas.List.Elements.{All-map, All-nil, All-same, All-push}
+use Rattle.std.proofs.lemmas.List.{map-append, take-map, drop-map, drop_all, take_all, length-map, length-replicate, get_or-map, get_or-replicate, ext_get_or}
+use Rattle.std.proofs.lemmas.List.Elements.{All-same}
 use Rattle.sc_field.specs.Field.{IsField, IsAction, IsNumbered, IsNumber}
 use Rattle.sc_field.specs.ActionLemmas.{is_number, is_number_xor, is_number_act, element_xor, element_act}
 use Rattle.sc_matrix.specs.Module.{IsModule, IsLinear}
 use Rattle.sc_matrix.specs.Vector.{IsVector, add_vectors, scale_vector, dot, combination}
-use Rattle.sc_matrix.specs.Matrix.{Matrix, IsMatrix, row_count, row, with_row, scale_row, add_row_from, product, IsFirstNonzero}
+use Rattle.sc_matrix.specs.Matrix.{Matrix, IsMatrix, row_count, row, with_row, scale_row, add_row_from, transpose, submatrix, product, IsFirstNonzero}
 use Rattle.sc_matrix.specs.Layout.{map_matrix}
 use Rattle.sc_matrix.specs.Rows.{table}
-use Rattle.sc_matrix.specs.Numbers.{elements_of}
+use Rattle.sc_matrix.specs.Numbers.{elements_of, AreNumbers}
 use Rattle.sc_matrix.specs.declared.rows.Rows.{Rows}
 use Rattle.sc_matrix.proofs.VectorLaws.{map-map, map_same, map_const, map-add_vectors, IsVector-map, IsVector-append, IsVector-take, IsVector-drop, IsVector-replicate, IsVector-add_vectors, vector_of}
-use Rattle.sc_matrix.proofs.MatrixLaws.{matrix_rows, IsMatrix-map, IsMatrix-with_row, row_count-map, row-map, map-with_row, get_or-map_all}
-use Rattle.sc_matrix.proofs.ModuleLaws.{linear-dot, value-dot, dot_comm, dot-append}
+use Rattle.sc_matrix.proofs.MatrixLaws.{matrix_rows, IsMatrix-map, IsMatrix-with_row, IsMatrix-transpose, IsMatrix-submatrix, row_count-map, row-map, map-with_row, map-transpose, map-submatrix, get_or-map_all}
+use Rattle.sc_matrix.proofs.ProductLaws.{IsMatrix-product}
+use Rattle.sc_matrix.proofs.ModuleLaws.{linear-dot, value-dot, dot_comm}
 use Rattle.sc_matrix.proofs.Modules.{byte_module, vector_module}
 use Rattle.sc_matrix.proofs.LayoutLaws.{length-cut}
 
--- ---- rows in memory
-pub count_of : {B : Type 0} (f : ℕ → B) (r : Rows) (m : Matrix B) → elements_of f r ≡ m → row_count m ≡ r.count
-count_of f r m e = ap row_count (sym e) ∙ row_count-map f (table r) ∙ length-cut r.count r.width r.bytes.items
-
-pub width_of : {B : Type 0} (f : ℕ → B) (r : Rows) (m : Matrix B) → elements_of f r ≡ m → m.cols ≡ r.width
-width_of f r m e = ap (λ (k : Matrix _). k.cols) (sym e)
+-- from one account of an option to another
+pub option_account : {A : Type 0} {P P' : Type 0} {Q Q' : A → Type 0} (o : Option A) → (P → P') → ((x : A) → Q x → Q' x) → MatchOption o P Q → MatchOption o P' Q'
+option_account None f h m = f m
+option_account (Some x) f h m = h x m
 
 -- ---- the numbers of a field's elements
 module _ {A : Type 0} {IsElement : A → Type 0} {zero one : A} {add sub mul : A → A → A} {inv : A → A} {act : A → ℕ → ℕ} {number : A → ℕ} {element : ℕ → A} (laws : IsField IsElement zero one add sub mul inv) (action : IsAction IsElement zero one add mul act) (numbered : IsNumbered IsElement zero one number element) (by_number : (x : A) → IsElement x → act x 1 ≡ number x) where
@@ -84,28 +83,6 @@ module _ {A : Type 0} {IsElement : A → Type 0} {zero one : A} {add sub mul : A
         (elements-add (drop from u) (scale_vector act x (drop from v)) (IsVector-drop from u hu) (IsVector-map (act x) (drop from v) (λ n hn. number_module.times_value x n hx hn) (IsVector-drop from v hv))
         ∙ ap₂ (add_vectors add) (sym (drop-map element from u)) (elements-times x (drop from v) hx (IsVector-drop from v hv) ∙ ap (scale_vector mul x) (sym (drop-map element from v))))
 
-  module _ (m : Matrix ℕ) (hm : IsMatrix Number m) where
-    pub numbers-add_row_from : (a b from : ℕ) (x : A) → IsElement x → a < row_count m → b < row_count m → from ≤ m.cols
-        → IsMatrix Number (add_row_from bit_xor act m a x b from) × (map_matrix element (add_row_from bit_xor act m a x b from) ≡ add_row_from add mul (map_matrix element m) a x b from)
-    numbers-add_row_from a b from x hx ha hb le =
-        let u = row m a in
-        let v = row m b in
-        let hu = hm.vectors a [] ha in
-        let hv = hm.vectors b [] hb in (
-          IsMatrix-with_row m a _ hm (numbers-added u v x from hx hu hv le),
-          map-with_row element m a _
-              ∙ ap (with_row (map_matrix element m) a)
-              (elements-added u v x from hx hu hv le
-              ∙ ap₂ (λ (s t : List A). take from s ++ add_vectors add (drop from s) (scale_vector mul x (drop from t))) (sym (row-map element m a)) (sym (row-map element m b))),
-        )
-
-    pub numbers-scale_row : (a : ℕ) (x : A) → IsElement x → a < row_count m → IsMatrix Number (scale_row act m a x) × (map_matrix element (scale_row act m a x) ≡ scale_row mul (map_matrix element m) a x)
-    numbers-scale_row a x hx ha =
-        let hu = hm.vectors a [] ha in (
-          IsMatrix-with_row m a _ hm (IsVector-map (act x) (row m a) (λ n hn. number_module.times_value x n hx hn) hu),
-          map-with_row element m a _ ∙ ap (with_row (map_matrix element m) a) (elements-times x (row m a) hx hu ∙ ap (scale_vector mul x) (sym (row-map element m a))),
-        )
-
   -- to take the element of a number is linear, and so is to take those of a row
   pub element_linear : IsLinear IsElement Number 0 bit_xor act zero add mul element
   element_linear = record {
@@ -121,88 +98,83 @@ module _ {A : Type 0} {IsElement : A → Type 0} {zero one : A} {add sub mul : A
     of_times = λ x v hx hv. elements-times x v hx hv;
   }
 
-  -- the product of elements and numbers
-  pub numbers-product : (a : Matrix A) (b : Matrix ℕ) → IsMatrix IsElement a → IsMatrix Number b
-      → IsMatrix Number (product 0 bit_xor act a b) × (map_matrix element (product 0 bit_xor act a b) ≡ product zero add mul a (map_matrix element b))
-  numbers-product a b ha hb = (
-    record {
-      vectors =
-          All-map (IsVector Number b.cols) (λ (r : List A). combination 0 bit_xor act b.cols r b.rows) a.rows
-          (λ k d h. value-dot laws (vector_module number_module b.cols) _ b.rows (ha.vectors k d h) (matrix_rows hb));
-    },
-    ap (λ (rows : List (List A)). let m : Matrix A = record { cols = b.cols; rows = rows } in m)
-        (map-map (map element) (λ (r : List A). combination 0 bit_xor act b.cols r b.rows) a.rows
-        ∙ map_same (λ (r : List A). map element (combination 0 bit_xor act b.cols r b.rows)) (λ (r : List A). combination zero add mul b.cols r (map (map element) b.rows)) a.rows
-        (λ r hr. linear-dot laws (vector_module number_module b.cols) (elements_linear b.cols) r b.rows hr (matrix_rows hb)) (matrix_rows ha)),
-  )
-
-  pub numbers-mul : (a b : Matrix ℕ) → IsMatrix Number a → IsMatrix Number b
-      → IsMatrix Number (product 0 bit_xor act (map_matrix element a) b) × (map_matrix element (product 0 bit_xor act (map_matrix element a) b) ≡ product zero add mul (map_matrix element a) (map_matrix element b))
-  numbers-mul a b ha hb = numbers-product (map_matrix element a) b (IsMatrix-map element IsElement a (λ n h. h.is_element) ha) hb
-
-  -- the dot product of a row of numbers and a vector of elements
-  pub numbers-dot : {p q : ℕ} (v : List A) (ns : List ℕ) → IsVector IsElement p v → IsVector Number q ns
-      → Number (dot 0 bit_xor act v ns) × (element (dot 0 bit_xor act v ns) ≡ dot zero add mul (map element ns) v)
-  numbers-dot v ns hv hn = (
-    value-dot laws number_module v ns hv hn,
-    linear-dot laws number_module element_linear v ns hv hn ∙ dot_comm laws v (map element ns) hv (IsVector-map element ns (λ m h. h.is_element) hn),
-  )
-
   -- zeros of numbers and of elements
   pub element-zero_iff : (n : ℕ) → Number n → (element n ≡ zero) ↔ (n ≡ 0)
   element-zero_iff n h = (λ e. sym h.same ∙ ap number e ∙ numbered.of_zero, λ e. ap element e ∙ element_zero)
 
-  -- what a loop knows that sums the products of the first n entries
-  pub record DotSoFar (v : List A) (ns : List ℕ) (n : ℕ) (total : ℕ) : Type 0 where
-    pub first : All IsElement (take n v)
-    pub value : total ≡ dot 0 bit_xor act (take n v) (take n ns)
+  -- what an operation on the rows in memory makes of their matrix
+  module _ (r : Rows) {m : Matrix A} (kept : AreNumbers IsElement number element r) (view : elements_of element r ≡ m) where
+    within : (a : ℕ) → a < row_count m → a < row_count (table r)
+    within a h = let n = ap row_count view in let l = row_count-map element (table r) in omega arith
 
-  pub DotSoFar-none : (v : List A) (ns : List ℕ) → DotSoFar v ns 0 0
-  DotSoFar-none v ns = record { first = All-nil IsElement; value = refl }
+    pub row_scaled : {t : Matrix ℕ} (a : ℕ) (x : A) → IsElement x → a < row_count m → t ≡ scale_row act (table r) a x → IsMatrix Number t × (map_matrix element t ≡ scale_row mul m a x)
+    row_scaled a x hx ha e =
+        let hu = kept.vectors a [] (within a ha) in
+        rw (e, ← view) (
+          IsMatrix-with_row (table r) a _ kept ((vector_module number_module r.width).times_value x _ hx hu),
+          map-with_row element (table r) a _ ∙ ap (with_row (elements_of element r) a) (elements-times x _ hx hu ∙ ap (scale_vector mul x) (sym (row-map element (table r) a))),
+        )
 
-  pub DotSoFar-more : (v : List A) (ns : List ℕ) (n total : ℕ) (x : A) → n < length v → length v ≡ length ns → All Number ns → IsElement x → x ≡ get_or v n x → DotSoFar v ns n total
-      → DotSoFar v ns (n + 1) (bit_xor total (act x (get_or ns n 0)))
-  DotSoFar-more v ns n total x h l hn hx is so_far =
-      let k : ℕ = get_or ns n 0 in
-      let tv : take (n + 1) v ≡ take n v ++ x ∷ [] = take_more v n x h ∙ ap (λ (y : A). take n v ++ y ∷ []) (sym is) in
-      let tn : take (n + 1) ns ≡ take n ns ++ k ∷ [] = take_more ns n 0 (omega arith) in
-      let pv : IsVector IsElement n (take n v) = record { width = length-take-le n v (omega arith); entries = so_far.first } in
-      let pn : IsVector Number n (take n ns) = IsVector-take n ns (vector_of ns hn) (omega arith) in
-      let hk : Number k = hn n 0 (omega arith) in
-      record {
-        first = All-same IsElement _ _ tv (All-push IsElement (take n v) x so_far.first hx);
-        value =
-            ap₂ bit_xor so_far.value (sym (xor_zero_r (act x k)))
-            ∙ sym (dot-append laws number_module (take n v) (x ∷ []) (take n ns) (k ∷ []) (pv.width ∙ sym pn.width) pv (IsVector-replicate 1 x hx) pn (IsVector-replicate 1 k hk))
-            ∙ sym (ap₂ (dot 0 bit_xor act) tv tn);
-      }
+    pub row_added : {t : Matrix ℕ} (a b from : ℕ) (x : A) → IsElement x → a < row_count m → b < row_count m → from ≤ m.cols → t ≡ add_row_from bit_xor act (table r) a x b from
+        → IsMatrix Number t × (map_matrix element t ≡ add_row_from add mul m a x b from)
+    row_added a b from x hx ha hb le e =
+        let hu = kept.vectors a [] (within a ha) in
+        let hv = kept.vectors b [] (within b hb) in
+        let within_row : from ≤ r.width = omega (arith, ap (λ (k : Matrix A). k.cols) view) in
+        rw (e, ← view) (
+          IsMatrix-with_row (table r) a _ kept (numbers-added _ _ x from hx hu hv within_row),
+          map-with_row element (table r) a _
+              ∙ ap (with_row (elements_of element r) a)
+              (elements-added _ _ x from hx hu hv within_row
+              ∙ ap₂ (λ (s t : List A). take from s ++ add_vectors add (drop from s) (scale_vector mul x (drop from t))) (sym (row-map element (table r) a)) (sym (row-map element (table r) b))),
+        )
 
-  pub DotSoFar-all : (v : List A) (ns : List ℕ) (n total : ℕ) → length v ≤ n → length v ≡ length ns → All Number ns → DotSoFar v ns n total → Number total × (element total ≡ dot zero add mul (map element ns) v)
-  DotSoFar-all v ns n total h l hn so_far =
-      let hv : All IsElement v = All-same IsElement _ _ (sym (take_all n v h)) so_far.first in
-      let d = numbers-dot v ns (vector_of v hv) (vector_of ns hn) in
-      let e : total ≡ dot 0 bit_xor act v ns = so_far.value ∙ ap₂ (dot 0 bit_xor act) (take_all n v h) (take_all n ns (omega arith)) in
-      rw e d
+    pub transposed : {t : Matrix ℕ} → t ≡ transpose 0 (table r) → IsMatrix Number t × (map_matrix element t ≡ transpose zero m)
+    transposed e = rw (e, ← view) (IsMatrix-transpose 0 (table r) kept, map-transpose element (table r) 0 zero element_zero)
 
-  -- a row of zeros, and the first entry that is not zero
-  pub numbers_zero : (c : ℕ) (ns : List ℕ) → IsVector Number c ns → ((j : ℕ) → get_or ns j 0 ≡ 0) → map element ns ≡ replicate c zero
-  numbers_zero c ns hn each =
-      let w = hn.width in
-      let l = length-map ns element in
-      let k = length-replicate c zero in
-      ext_get_or zero (map element ns) (replicate c zero) (omega arith)
-      (λ i h. get_or-map element ns i 0 zero (omega arith) ∙ ap element (each i) ∙ element_zero ∙ sym (get_or-replicate c i zero zero (omega arith)))
+    pub part_taken : {t : Matrix ℕ} (is js : List ℕ) → t ≡ submatrix 0 (table r) is js → IsMatrix Number t × (map_matrix element t ≡ submatrix zero m is js)
+    part_taken is js e = rw (e, ← view) (IsMatrix-submatrix 0 (table r) is js kept zero_number, map-submatrix element (table r) is js 0 zero element_zero)
 
-  pub numbers_first : (c : ℕ) (ns : List ℕ) (j : ℕ) → IsVector Number c ns → IsFirstNonzero 0 ns j → IsFirstNonzero zero (map element ns) j
-  numbers_first c ns j hn is =
-      let within = is.within in
-      record {
-        within = rw length-map within;
-        nonzero = λ e. is.nonzero ((element-zero_iff (get_or ns j 0) (hn.entries j 0 within)).0 (sym (get_or-map element ns j 0 zero within) ∙ e));
-        before = λ k h. get_or-map_all element ns k 0 zero element_zero ∙ ap element (is.before k h) ∙ element_zero;
-      }
+    pub multiplied : {t : Matrix ℕ} {n : Matrix A} (s : Rows) → AreNumbers IsElement number element s → elements_of element s ≡ n → t ≡ product 0 bit_xor act (elements_of element r) (table s)
+        → IsMatrix Number t × (map_matrix element t ≡ product zero add mul m n)
+    multiplied s other seen e =
+        let hr = IsMatrix-map element IsElement (table r) (λ n h. h.is_element) kept in
+        rw (e, ← view, ← seen) (
+          IsMatrix-product laws number_module (elements_of element r) (table s) hr other,
+          ap (λ (rows : List (List A)). let m : Matrix A = record { cols = s.width; rows = rows } in m)
+              (map-map (map element) (λ (c : List A). combination 0 bit_xor act s.width c (table s).rows) (elements_of element r).rows
+              ∙ map_same (λ (c : List A). map element (combination 0 bit_xor act s.width c (table s).rows)) (λ (c : List A). combination zero add mul s.width c (elements_of element s).rows) (elements_of element r).rows
+              (λ c hc. linear-dot laws (vector_module number_module s.width) (elements_linear s.width) c (table s).rows hc (matrix_rows other)) (matrix_rows hr)),
+        )
 
--- from one account of an option to another
-pub option_account : {A : Type 0} {P P' : Type 0} {Q Q' : A → Type 0} (o : Option A) → (P → P') → ((x : A) → Q x → Q' x) → MatchOption o P Q → MatchOption o P' Q'
-option_account None f h m = f m
-option_account (Some x) f h m = h x m
+    -- a row is zero where its numbers are, and its first entry that is not zero stands where its numbers have theirs
+    pub first_found : (o : Option ℕ) (i : ℕ) → i < row_count m → MatchOption o ((j : ℕ) → get_or (row (table r) i) j 0 ≡ 0) (IsFirstNonzero 0 (row (table r) i))
+        → MatchOption o (row m i ≡ replicate m.cols zero) (IsFirstNonzero zero (row m i))
+    first_found o i h found =
+        let ns = row (table r) i in
+        let hn = kept.vectors i [] (within i h) in
+        let w = hn.width in
+        let l = length-map ns element in
+        let k = length-replicate r.width zero in
+        rw (← view, row-map element (table r) i)
+        (option_account o
+        (λ each. ext_get_or zero (map element ns) (replicate r.width zero) (omega arith)
+        (λ j q. get_or-map element ns j 0 zero (omega arith) ∙ ap element (each j) ∙ element_zero ∙ sym (get_or-replicate r.width j zero zero (omega arith))))
+        (λ j is. record {
+          within = (let inside = is.within in omega arith);
+          nonzero = λ e. is.nonzero ((element-zero_iff (get_or ns j 0) (hn.entries j 0 is.within)).0 (sym (get_or-map element ns j 0 zero is.within) ∙ e));
+          before = λ k h. get_or-map_all element ns k 0 zero element_zero ∙ ap element (is.before k h) ∙ element_zero;
+        })
+        found)
+
+  -- what a loop has that summed the products of all entries
+  pub dot_summed : (v : List A) (ns : List ℕ) (n total : ℕ) → length v ≤ n → length v ≡ length ns → All Number ns → All IsElement (take n v)
+      → dot 0 bit_xor act v ns ≡ bit_xor total (dot 0 bit_xor act (drop n v) (drop n ns)) → Number total × (element total ≡ dot zero add mul (map element ns) v)
+  dot_summed v ns n total h l hn hv e =
+      let rest : bit_xor total (dot 0 bit_xor act (drop n v) (drop n ns)) ≡ total = rw (drop_all n v h) (xor_zero_r total) in
+      let elements : IsVector IsElement (length v) v = vector_of v (All-same IsElement _ _ (sym (take_all n v h)) hv) in
+      let numbers : IsVector Number (length ns) ns = vector_of ns hn in
+      rw (← (e ∙ rest)) (
+        value-dot laws number_module v ns elements numbers,
+        linear-dot laws number_module element_linear v ns elements numbers ∙ dot_comm laws v (map element ns) elements (IsVector-map element ns (λ m k. k.is_element) numbers),
+      )

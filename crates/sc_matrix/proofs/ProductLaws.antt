@@ -1,6 +1,6 @@
 -- Laws of the products of matrices, and of a matrix and a vector. The matrix on the left has elements of the field. What is
 -- on the right may have values of any module over it, as elements or bytes.
-use Rattle.std.proofs.Common.{◌≡◌, ℕ, ◌<◌, List, [], length, get_or, replicate, refl, sym, ◌∙◌, ap, ap₂, subst, arith}
+use Rattle.std.proofs.Common.{◌≡◌, ℕ, ◌<◌, List, [], length, get_or, map, replicate, refl, sym, ◌∙◌, ap, ap₂, subst, arith}
 use Rattle.std.specs.List.{range_with_len}
 use Rattle.std.proofs.lemmas.List.{length-map, get_or-map, ext_get_or}
 use Rattle.std.proofs.lemmas.List.Elements.{All-map}
@@ -9,7 +9,7 @@ use Rattle.sc_field.specs.Field.{IsField}
 use Rattle.sc_matrix.specs.Module.{IsModule}
 use Rattle.sc_matrix.specs.Vector.{IsVector, add_vectors, scale_vector, dot, combination, unit_vector}
 use Rattle.sc_matrix.specs.Matrix.{Matrix, IsMatrix, row, row_count, entry, column, apply, product, matrix_sum, identity}
-use Rattle.sc_matrix.proofs.VectorLaws.{map_same, map_const, map-plus, map-map, map-add_vectors, IsVector-set, IsVector-replicate, get_or-combination}
+use Rattle.sc_matrix.proofs.VectorLaws.{IsVector-map, map_same, map_const, map-plus, map-map, map-add_vectors, IsVector-set, IsVector-replicate, get_or-combination}
 use Rattle.sc_matrix.proofs.ModuleLaws.{dot-add_left, dot-add_right, dot-scale_right, dot_zero_right, dot_unit}
 use Rattle.sc_matrix.proofs.Modules.{vector_module, dot-combination, IsVector-combination}
 use Rattle.sc_matrix.proofs.MatrixLaws.{matrix_rows}
@@ -54,19 +54,8 @@ module _ {C A : Type 0} {IsElement : C → Type 0} {zero one : C} {add sub mul :
   -- ---- products of matrices
   pub IsMatrix-product : (a : Matrix C) (b : Matrix A) → IsMatrix IsElement a → IsMatrix IsValue b → IsMatrix IsValue (product none plus times a b)
   IsMatrix-product a b ha hb = record {
-    vectors =
-        All-map (IsVector IsValue b.cols) (λ (r : List C). combination none plus times b.cols r b.rows) a.rows
-        (λ k d h. IsVector-combination laws ml b.cols _ b.rows (ha.vectors k d h) (matrix_rows hb));
+    vectors = (IsVector-map {Q = IsVector IsValue b.cols} (λ (r : List C). combination none plus times b.cols r b.rows) a.rows (λ r hr. IsVector-combination laws ml b.cols r b.rows hr (matrix_rows hb)) (matrix_rows ha)).entries;
   }
-
-  pub product_assoc : (a b : Matrix C) (c : Matrix A) → IsMatrix IsElement a → IsMatrix IsElement b → IsMatrix IsValue c
-      → product none plus times (product zero add mul a b) c ≡ product none plus times a (product none plus times b c)
-  product_assoc a b c ha hb hc =
-      same_matrix (product none plus times (product zero add mul a b) c) (product none plus times a (product none plus times b c)) refl
-      (map-map (λ (r : List C). combination none plus times c.cols r c.rows) (λ (r : List C). combination zero add mul b.cols r b.rows) a.rows
-      ∙ map_same (λ (r : List C). combination none plus times c.cols (combination zero add mul b.cols r b.rows) c.rows)
-      (λ (r : List C). combination none plus times c.cols r (product none plus times b c).rows) a.rows
-      (λ r hr. dot-combination laws (vector_module ml c.cols) b.cols r b.rows c.rows hr (matrix_rows hb) (matrix_rows hc)) (matrix_rows ha))
 
   -- (a + b) c = a c + b c
   pub product-sum_left : (a b : Matrix C) (c : Matrix A) → IsMatrix IsElement a → IsMatrix IsElement b → IsMatrix IsValue c → a.cols ≡ b.cols
@@ -76,17 +65,6 @@ module _ {C A : Type 0} {IsElement : C → Type 0} {zero one : C} {add sub mul :
       (map-add_vectors (add_vectors add) (add_vectors plus) (λ (r : List C). combination none plus times c.cols r c.rows) a.rows b.rows
       (λ r s hr hs. dot-add_left laws (vector_module ml c.cols) r s c.rows hr hs (matrix_rows hc)) (matrix_rows ha)
       (subst (λ (n : ℕ). IsVector (IsVector IsElement n) (row_count b) b.rows) (sym e) (matrix_rows hb)))
-
-  -- a (b + c) = a b + a c
-  pub product-sum_right : (a : Matrix C) (b c : Matrix A) → IsMatrix IsElement a → IsMatrix IsValue b → IsMatrix IsValue c → b.cols ≡ c.cols → row_count b ≡ row_count c
-      → product none plus times a (matrix_sum plus b c) ≡ matrix_sum plus (product none plus times a b) (product none plus times a c)
-  product-sum_right a b c ha hb hc e n =
-      let rows : IsVector (IsVector IsValue b.cols) (row_count b) c.rows = subst (λ (k : ℕ). IsVector (IsVector IsValue k) (row_count b) c.rows) (sym e) (record { width = sym n; entries = hc.vectors }) in
-      same_matrix (product none plus times a (matrix_sum plus b c)) (matrix_sum plus (product none plus times a b) (product none plus times a c)) refl
-      (map-plus (add_vectors plus) (λ (r : List C). combination none plus times b.cols r (add_vectors (add_vectors plus) b.rows c.rows))
-      (λ (r : List C). combination none plus times b.cols r b.rows) (λ (r : List C). combination none plus times c.cols r c.rows) a.rows
-      (λ r hr. dot-add_right laws (vector_module ml b.cols) r b.rows c.rows hr (matrix_rows hb) rows
-      ∙ ap (λ (k : ℕ). add_vectors plus (combination none plus times b.cols r b.rows) (combination none plus times k r c.rows)) e) (matrix_rows ha))
 
   -- ---- the identity matrix
   pub apply-identity : (n : ℕ) (v : List A) → IsVector IsValue n v → apply none plus times (identity zero one n) v ≡ v
@@ -100,17 +78,23 @@ module _ {C A : Type 0} {IsElement : C → Type 0} {zero one : C} {add sub mul :
       ∙ ap (λ (r : List C). dot none plus times r v) (get_or-map-range_with_len (unit_vector zero one n) 0 n i i [] (omega arith) (omega arith))
       ∙ dot_unit laws ml n i v hv (omega arith))
 
+-- ---- a matrix on the right is a vector of its rows
+module _ {C A : Type 0} {IsElement : C → Type 0} {zero one : C} {add sub mul : C → C → C} {inv : C → C} {IsValue : A → Type 0} {none : A} {plus : A → A → A} {times : C → A → A} (laws : IsField IsElement zero one add sub mul inv) (ml : IsModule IsElement zero one add mul IsValue none plus times) where
+  pub product_assoc : (a b : Matrix C) (c : Matrix A) → IsMatrix IsElement a → IsMatrix IsElement b → IsMatrix IsValue c
+      → product none plus times (product zero add mul a b) c ≡ product none plus times a (product none plus times b c)
+  product_assoc a b c ha hb hc = same_matrix _ _ refl (apply-product laws (vector_module ml c.cols) a b c.rows ha hb (matrix_rows hc))
+
+  -- a (b + c) = a b + a c
+  pub product-sum_right : (a : Matrix C) (b c : Matrix A) → IsMatrix IsElement a → IsMatrix IsValue b → IsMatrix IsValue c → b.cols ≡ c.cols → row_count b ≡ row_count c
+      → product none plus times a (matrix_sum plus b c) ≡ matrix_sum plus (product none plus times a b) (product none plus times a c)
+  product-sum_right a b c ha hb hc e n =
+      let rows : IsVector (IsVector IsValue b.cols) (row_count b) c.rows = subst (λ (k : ℕ). IsVector (IsVector IsValue k) (row_count b) c.rows) (sym e) (record { width = sym n; entries = hc.vectors }) in
+      same_matrix (product none plus times a (matrix_sum plus b c)) (matrix_sum plus (product none plus times a b) (product none plus times a c)) refl
+      (apply-add_vectors laws (vector_module ml b.cols) a b.rows c.rows ha (matrix_rows hb) rows
+      ∙ ap (λ (k : ℕ). add_vectors (add_vectors plus) (product none plus times a b).rows (map (λ (r : List C). combination none plus times k r c.rows) a.rows)) e)
+
   pub product-identity_left : (b : Matrix A) → IsMatrix IsValue b → product none plus times (identity zero one (row_count b)) b ≡ b
-  product-identity_left b hb =
-      let n = row_count b in
-      let l : length (identity zero one n).rows ≡ n = length-map-range_with_len (unit_vector zero one n) 0 n in
-      let k = length-map (identity zero one n).rows (λ (r : List C). combination none plus times b.cols r b.rows) in
-      same_matrix (product none plus times (identity zero one n) b) b refl
-      (ext_get_or (replicate b.cols none) (product none plus times (identity zero one n) b).rows b.rows (omega arith)
-      (λ i h.
-      get_or-map (λ (r : List C). combination none plus times b.cols r b.rows) (identity zero one n).rows i [] (replicate b.cols none) (omega arith)
-      ∙ ap (λ (r : List C). combination none plus times b.cols r b.rows) (get_or-map-range_with_len (unit_vector zero one n) 0 n i i [] (omega arith) (omega arith))
-      ∙ dot_unit laws (vector_module ml b.cols) n i b.rows (matrix_rows hb) (omega arith)))
+  product-identity_left b hb = same_matrix _ b refl (apply-identity laws (vector_module ml b.cols) (row_count b) b.rows (matrix_rows hb))
 
 module _ {A : Type 0} {IsElement : A → Type 0} {zero one : A} {add sub mul : A → A → A} {inv : A → A} (laws : IsField IsElement zero one add sub mul inv) where
   pub IsVector-unit : (n i : ℕ) → IsVector IsElement n (unit_vector zero one n i)

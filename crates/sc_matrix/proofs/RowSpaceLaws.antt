@@ -1,8 +1,8 @@
 -- The row space and the kernel: both are subspaces, a vector of the kernel has a zero dot product with each of the row
 -- space, and each row operation keeps both, since another undoes it. A vector of the kernel may have values of any module.
-use Rattle.std.proofs.Common.{◌≡◌, ◌≢◌, ◌↔◌, ℕ, ◌+◌, ◌-◌, ◌<◌, ◌≤◌, List, [], ◌∷◌, ◌++◌, length, get_or, set, swap, take, drop, replicate, All, subst, inl, inr, refl, sym, ◌∙◌, ap, ap₂, arith}
-use Rattle.std.proofs.lemmas.Bool.{cases_eq, cases_lt}
-use Rattle.std.proofs.lemmas.List.{length-map, length-set, length-replicate, get_or-map, get_or-replicate, get_or-set_same, get_or-set_other, set-set, set-get_or, ext_get_or, get_or_default, length-append, get_or_append_left, get_or-append-add, get_or-append_right, get_or-take, get_or-drop, length-take-le, length-drop}
+use Rattle.std.proofs.lemmas.Grind.{get_or-set_at}
+use Rattle.std.proofs.Common.{zero as naught, suc, ◌≡◌, ◌≢◌, ◌↔◌, ℕ, ◌+◌, ◌<◌, ◌≤◌, List, [], ◌∷◌, ◌++◌, length, get_or, set, swap, take, drop, replicate, All, subst, refl, sym, ◌∙◌, ap, ap₂, arith}
+use Rattle.std.proofs.lemmas.List.{length-set, get_or-map, get_or-replicate, get_or-set_same, get_or-set_other, set-set, set-get_or, ext_get_or, get_or_default, length-append, get_or_append_left, get_or-append-add}
 use Rattle.std.proofs.lemmas.List.Elements.{All-set, All-append}
 use Rattle.std.proofs.lemmas.List.Edits.{swap_is, length-swap}
 use Rattle.sc_field.specs.Field.{IsField}
@@ -11,55 +11,27 @@ use Rattle.sc_matrix.specs.Module.{IsModule}
 use Rattle.sc_matrix.specs.Vector.{IsVector, add_vectors, scale_vector, dot, combination, unit_vector}
 use Rattle.sc_matrix.specs.Matrix.{Matrix, IsMatrix, IsInKernel, row, row_count, with_row, apply, swap_rows, scale_row, add_row, add_row_from, entry, stacked}
 use Rattle.sc_matrix.specs.RowSpace.{IsSubspace, IsInRowSpace, RowsAreIn, HaveOneRowSpace}
-use Rattle.sc_matrix.proofs.VectorLaws.{head, tail, vector_of, entry_at, length-add_vectors, get_or-add_vectors, length-scale_vector, get_or-scale_vector}
+use Rattle.sc_matrix.proofs.VectorLaws.{map_const, head, tail, vector_of}
 use Rattle.sc_matrix.proofs.ModuleLaws.{dot_zero_left, dot_zero_right, dot-add_left, dot-scale_left, dot_unit, inv_times, plus_times_back, times_none}
 use Rattle.sc_matrix.proofs.Modules.{field_module, vector_module, dot-combination}
-use Rattle.sc_matrix.proofs.MatrixLaws.{matrix_rows, IsMatrix-with_row, IsMatrix-swap_rows}
+use Rattle.sc_matrix.proofs.MatrixLaws.{matrix_rows, All-swap, IsMatrix-with_row, IsMatrix-swap_rows}
 use Rattle.sc_matrix.proofs.ProductLaws.{same_matrix, IsVector-unit, apply-add_vectors, apply-scale_vector, apply_zero_vector}
 
--- ---- two entries exchanged, and exchanged again
-module _ {X : Type 0} (xs : List X) (a b : ℕ) (d : X) (ha : a < length xs) (hb : b < length xs) where
-  second_is : get_or (swap xs a b) b d ≡ get_or xs a d
-  second_is =
-      let n = length-set xs a (get_or xs b d) in
-      ap (λ (ys : List X). get_or ys b d) (sym (swap_is xs a b d ha hb)) ∙ get_or-set_same (set xs a (get_or xs b d)) b (get_or xs a d) d (omega arith)
-
-  rest_is : (k : ℕ) → k ≢ b → k ≢ a → get_or (swap xs a b) k d ≡ get_or xs k d
-  rest_is k nb na =
-      ap (λ (ys : List X). get_or ys k d) (sym (swap_is xs a b d ha hb)) ∙ get_or-set_other (set xs a (get_or xs b d)) b k (get_or xs a d) d nb
-      ∙ get_or-set_other xs a k (get_or xs b d) d na
-
-  first_is : get_or (swap xs a b) a d ≡ get_or xs b d
-  first_is =
-      elim (cases_eq a b) [
-        | inl same ↦ subst (λ (k : ℕ). get_or (swap xs a b) k d ≡ get_or xs b d) (sym same) (second_is ∙ ap (λ (k : ℕ). get_or xs k d) same)
-        | inr apart ↦
-            ap (λ (ys : List X). get_or ys a d) (sym (swap_is xs a b d ha hb)) ∙ get_or-set_other (set xs a (get_or xs b d)) b a (get_or xs a d) d apart
-            ∙ get_or-set_same xs a (get_or xs b d) d ha
-      ]
-
+-- two entries exchanged, and exchanged again
 pub swap-swap : {X : Type 0} (xs : List X) (a b : ℕ) (d : X) → a < length xs → b < length xs → swap (swap xs a b) a b ≡ xs
 swap-swap xs a b d ha hb =
     let n = length-swap xs a b in
     let n' = length-swap (swap xs a b) a b in
-    ext_get_or d (swap (swap xs a b) a b) xs (omega arith)
-    (λ k h.
-    elim (cases_eq k b) [
-      | inl same ↦ subst (λ (j : ℕ). get_or (swap (swap xs a b) a b) j d ≡ get_or xs j d) (sym same) (second_is (swap xs a b) a b d (omega arith) (omega arith) ∙ first_is xs a b d ha hb)
-      | inr nb ↦
-          elim (cases_eq k a) [
-            | inl same ↦ subst (λ (j : ℕ). get_or (swap (swap xs a b) a b) j d ≡ get_or xs j d) (sym same) (first_is (swap xs a b) a b d (omega arith) (omega arith) ∙ second_is xs a b d ha hb)
-            | inr na ↦ rest_is (swap xs a b) a b d (omega arith) (omega arith) k nb na ∙ rest_is xs a b d ha hb k nb na
-          ]
-    ])
+    let once = swap_is xs a b d ha hb in
+    let twice = swap_is (swap xs a b) a b d (omega arith) (omega arith) in
+    ext_get_or d (swap (swap xs a b) a b) xs (omega arith) (λ k h. grind (arith, get_or-set_at, get_or-set_other, length-set))
 
 -- ---- subspaces
 -- a subspace has the dot products of elements and its values
 pub dot_in : {C A : Type 0} {IsElement : C → Type 0} {none : A} {plus : A → A → A} {times : C → A → A} {Has : A → Type 0} → IsSubspace IsElement none plus times Has
     → (cs : List C) (vs : List A) {p q : ℕ} → IsVector IsElement p cs → IsVector Has q vs → Has (dot none plus times cs vs)
-dot_in s [] vs hc hv = s.has_none
-dot_in s (c ∷ cs) [] hc hv = s.has_none
 dot_in s (c ∷ cs) (v ∷ vs) hc hv = s.has_plus _ _ (s.has_times c v (head hc) (head hv)) (dot_in s cs vs (tail hc) (tail hv))
+dot_in s cs vs hc hv = s.has_none
 
 -- ---- the kernel
 module _ {C A : Type 0} (none : A) (plus : A → A → A) (times : C → A → A) where
@@ -69,13 +41,7 @@ module _ {C A : Type 0} (none : A) (plus : A → A → A) (times : C → A → A
     λ e k d h.
         sym (get_or-map (λ (r : List C). dot none plus times r v) m.rows k d none h) ∙ ap (λ (w : List A). get_or w k none) e
         ∙ get_or-replicate (row_count m) k none none h,
-    λ all.
-        let n = length-map m.rows (λ (r : List C). dot none plus times r v) in
-        let l = length-replicate (row_count m) none in
-        ext_get_or none (apply none plus times m v) (replicate (row_count m) none) (n ∙ sym l)
-        (λ k q.
-        let h : k < row_count m = omega arith in
-        get_or-map (λ (r : List C). dot none plus times r v) m.rows k [] none h ∙ all k [] h ∙ sym (get_or-replicate (row_count m) k none none h)),
+    λ all. map_const (λ (r : List C). dot none plus times r v) none m.rows (λ r e. e) (vector_of m.rows all),
   )
 
   -- the kernel of stacked matrices is what their kernels have in common
@@ -193,13 +159,8 @@ module _ {A : Type 0} {IsElement : A → Type 0} {zero one : A} {add sub mul : A
   replaced : (m : Matrix A) (a : ℕ) (v : List A) → IsMatrix IsElement m → RowSpace m v → RowsAreIn IsElement zero add mul (with_row m a v) m
   replaced m a v hm hv = record { cols = refl; rows = All-set (RowSpace m) m.rows a v hv (all_rows_in m hm) }
 
-  swapped : (m : Matrix A) (a b : ℕ) → IsMatrix IsElement m → a < row_count m → b < row_count m → RowsAreIn IsElement zero add mul (swap_rows m a b) m
-  swapped m a b hm ha hb = record {
-    cols = refl;
-    rows =
-        subst (All (RowSpace m)) (swap_is m.rows a b [] ha hb)
-        (All-set (RowSpace m) (set m.rows a (row m b)) b (row m a) (row-in_row_space m a hm ha) (All-set (RowSpace m) m.rows a (row m b) (row-in_row_space m b hm hb) (all_rows_in m hm)));
-  }
+  swapped : (m : Matrix A) (a b : ℕ) → IsMatrix IsElement m → RowsAreIn IsElement zero add mul (swap_rows m a b) m
+  swapped m a b hm = record { cols = refl; rows = All-swap (RowSpace m) m.rows a b (all_rows_in m hm) }
 
   scaled : (m : Matrix A) (a : ℕ) (c : A) → IsMatrix IsElement m → IsElement c → a < row_count m → RowsAreIn IsElement zero add mul (scale_row mul m a c) m
   scaled m a c hm hc ha = replaced m a _ hm ((row_space_subspace m hm).has_times c (row m a) hc (row-in_row_space m a hm ha))
@@ -230,75 +191,36 @@ module _ {A : Type 0} {IsElement : A → Type 0} {zero one : A} {add sub mul : A
       (ap₂ (λ (r s : List A). add_vectors add r (scale_vector mul (sub zero c) s)) (get_or-set_same m.rows a v [] ha) (get_or-set_other m.rows a b v [] (λ e. ne (sym e)))
       ∙ plus_times_back laws (vectors m.cols) c (row m a) (row m b) hc (hm.vectors a [] ha) (hm.vectors b [] hb))
 
+  added_from : (start : ℕ) (us vs : List A) (c : A) {n : ℕ} → IsElement c → IsVector IsElement n us → IsVector IsElement n vs → ((j : ℕ) → j < start → get_or vs j zero ≡ zero)
+      → take start us ++ add_vectors add (drop start us) (scale_vector mul c (drop start vs)) ≡ add_vectors add us (scale_vector mul c vs)
+  added_from naught us vs c hc hu hv zeros = refl
+  added_from (suc start) [] vs c hc hu hv zeros = refl
+  added_from (suc start) (u ∷ us) [] c hc hu hv zeros = absurd (omega (arith, hu.width, hv.width))
+  added_from (suc start) (u ∷ us) (v ∷ vs) c hc hu hv zeros =
+      ap₂ (λ (x : A) (xs : List A). x ∷ xs) (sym (ap (λ (x : A). add u (mul c x)) (zeros 0 (omega arith)) ∙ ap (add u) (mul_zero laws c hc) ∙ laws.add_zero u (head hu)))
+      (added_from start us vs c hc (tail hu) (tail hv) (λ j h. zeros (suc j) (omega arith)))
+
   -- where row b is zero before a column, its multiple may be added from there on
   pub add_row_from-zeros : (m : Matrix A) (a b : ℕ) (c : A) (start : ℕ) → IsMatrix IsElement m → IsElement c → a < row_count m → b < row_count m → start ≤ m.cols → ((j : ℕ) → j < start → entry zero m b j ≡ zero) → add_row_from add mul m a c b start ≡ add_row add mul m a c b
-  add_row_from-zeros m a b c start hm hc ha hb le zeros =
-      let u = row m a in
-      let v = row m b in
-      let wu : length u ≡ m.cols = (hm.vectors a [] ha).width in
-      let wv : length v ≡ m.cols = (hm.vectors b [] hb).width in
-      let front : length (take start u) ≡ start = length-take-le start u (omega arith) in
-      let du = length-drop start u in
-      let dv = length-drop start v in
-      let sv = length-scale_vector mul c (drop start v) in
-      let cv = length-scale_vector mul c v in
-      let rest : List A = add_vectors add (drop start u) (scale_vector mul c (drop start v)) in
-      let lr : length rest ≡ length (drop start u) = length-add_vectors add (drop start u) (scale_vector mul c (drop start v)) (omega arith) in
-      let ll = length-append (take start u) rest in
-      let whole : length (add_vectors add u (scale_vector mul c v)) ≡ length u = length-add_vectors add u (scale_vector mul c v) (omega arith) in
-      ap (with_row m a)
-      (ext_get_or zero (take start u ++ rest) (add_vectors add u (scale_vector mul c v)) (omega arith)
-      (λ k h.
-      let sum : get_or (add_vectors add u (scale_vector mul c v)) k zero ≡ add (get_or u k zero) (mul c (get_or v k zero)) =
-      get_or-add_vectors add u (scale_vector mul c v) k zero (omega arith) (omega arith) ∙ ap (add (get_or u k zero)) (get_or-scale_vector mul c v k zero (omega arith)) in
-      elim (cases_lt k start) [
-        | inl lt ↦
-            get_or_append_left (take start u) rest zero k (omega arith) ∙ get_or-take start u k zero lt
-            ∙ sym (sum ∙ ap (λ (x : A). add (get_or u k zero) (mul c x)) (zeros k lt) ∙ ap (add (get_or u k zero)) (mul_zero laws c hc)
-            ∙ laws.add_zero (get_or u k zero) (entry_at k zero (hm.vectors a [] ha) (omega arith)))
-        | inr ge ↦
-            (let at : start + (k - start) ≡ k = omega arith in
-            get_or-append_right (take start u) rest start k zero front ge
-            ∙ get_or-add_vectors add (drop start u) (scale_vector mul c (drop start v)) (k - start) zero (omega arith) (omega arith)
-            ∙ ap₂ add (get_or-drop start u (k - start) zero ∙ ap (λ (j : ℕ). get_or u j zero) at)
-            (get_or-scale_vector mul c (drop start v) (k - start) zero (omega arith) ∙ ap (mul c) (get_or-drop start v (k - start) zero ∙ ap (λ (j : ℕ). get_or v j zero) at))
-            ∙ sym sum)
-      ]))
-
-  IsMatrix-scale_row : (m : Matrix A) (a : ℕ) (c : A) → IsMatrix IsElement m → IsElement c → a < row_count m → IsMatrix IsElement (scale_row mul m a c)
-  IsMatrix-scale_row m a c hm hc ha = IsMatrix-with_row m a _ hm ((vectors m.cols).times_value c (row m a) hc (hm.vectors a [] ha))
-
-  IsMatrix-add_row : (m : Matrix A) (a b : ℕ) (c : A) → IsMatrix IsElement m → IsElement c → a < row_count m → b < row_count m → IsMatrix IsElement (add_row add mul m a c b)
-  IsMatrix-add_row m a b c hm hc ha hb =
-      IsMatrix-with_row m a _ hm ((vectors m.cols).plus_value (row m a) (scale_vector mul c (row m b)) (hm.vectors a [] ha) ((vectors m.cols).times_value c (row m b) hc (hm.vectors b [] hb)))
+  add_row_from-zeros m a b c start hm hc ha hb le zeros = ap (with_row m a) (added_from start (row m a) (row m b) c hc (hm.vectors a [] ha) (hm.vectors b [] hb) zeros)
 
   -- so each keeps the row space
+  undone : {k m n : Matrix A} → RowsAreIn IsElement zero add mul k m → n ≡ m → RowsAreIn IsElement zero add mul n k → HaveOneRowSpace IsElement zero add mul k m
+  undone {k = k} within back within_back = record { first_in = within; second_in = subst (λ (n : Matrix A). RowsAreIn IsElement zero add mul n k) back within_back }
+
   pub row_space-swap_rows : (m : Matrix A) (a b : ℕ) → IsMatrix IsElement m → a < row_count m → b < row_count m → HaveOneRowSpace IsElement zero add mul (swap_rows m a b) m
-  row_space-swap_rows m a b hm ha hb =
-      let n = length-swap m.rows a b in
-      record {
-        first_in = swapped m a b hm ha hb;
-        second_in =
-            subst (λ (k : Matrix A). RowsAreIn IsElement zero add mul k (swap_rows m a b)) (swap_rows-swap_rows m a b ha hb)
-            (swapped (swap_rows m a b) a b (IsMatrix-swap_rows m a b ha hb hm) (omega arith) (omega arith));
-      }
+  row_space-swap_rows m a b hm ha hb = undone (swapped m a b hm) (swap_rows-swap_rows m a b ha hb) (swapped (swap_rows m a b) a b (IsMatrix-swap_rows m a b hm))
 
   pub row_space-scale_row : (m : Matrix A) (a : ℕ) (c : A) → IsMatrix IsElement m → IsElement c → c ≢ zero → a < row_count m → HaveOneRowSpace IsElement zero add mul (scale_row mul m a c) m
   row_space-scale_row m a c hm hc ne ha =
       let n = length-set m.rows a (scale_vector mul c (row m a)) in
-      record {
-        first_in = scaled m a c hm hc ha;
-        second_in =
-            subst (λ (k : Matrix A). RowsAreIn IsElement zero add mul k (scale_row mul m a c)) (scale_row-inverse m a c hm hc ne ha)
-            (scaled (scale_row mul m a c) a (inv c) (IsMatrix-scale_row m a c hm hc ha) (laws.inv_element c hc ne) (omega arith));
-      }
+      let hs = IsMatrix-with_row m a _ hm ((vectors m.cols).times_value c (row m a) hc (hm.vectors a [] ha)) in
+      undone (scaled m a c hm hc ha) (scale_row-inverse m a c hm hc ne ha) (scaled (scale_row mul m a c) a (inv c) hs (laws.inv_element c hc ne) (omega arith))
 
   pub row_space-add_row : (m : Matrix A) (a b : ℕ) (c : A) → IsMatrix IsElement m → IsElement c → a < row_count m → b < row_count m → a ≢ b → HaveOneRowSpace IsElement zero add mul (add_row add mul m a c b) m
   row_space-add_row m a b c hm hc ha hb ne =
       let n = length-set m.rows a (add_vectors add (row m a) (scale_vector mul c (row m b))) in
-      record {
-        first_in = added m a b c hm hc ha hb;
-        second_in =
-            subst (λ (k : Matrix A). RowsAreIn IsElement zero add mul k (add_row add mul m a c b)) (add_row-negative m a b c hm hc ha hb ne)
-            (added (add_row add mul m a c b) a b (sub zero c) (IsMatrix-add_row m a b c hm hc ha hb) (laws.sub_element zero c laws.zero_element hc) (omega arith) (omega arith));
-      }
+      let v = vectors m.cols in
+      let hs = IsMatrix-with_row m a _ hm (v.plus_value (row m a) _ (hm.vectors a [] ha) (v.times_value c (row m b) hc (hm.vectors b [] hb))) in
+      undone (added m a b c hm hc ha hb) (add_row-negative m a b c hm hc ha hb ne)
+      (added (add_row add mul m a c b) a b (sub zero c) hs (laws.sub_element zero c laws.zero_element hc) (omega arith) (omega arith))

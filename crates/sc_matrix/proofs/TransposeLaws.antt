@@ -1,16 +1,17 @@
 -- Laws of the transpose, by the entries of matrices.
-use Rattle.std.proofs.Common.{replicate, inl, inr, ◌≡◌, ℕ, ◌<◌, List, [], length, get_or, sym, ◌∙◌, ap, ap₂, arith}
-use Rattle.std.proofs.lemmas.Bool.{cases_eq}
-use Rattle.std.proofs.lemmas.List.{length-replicate, get_or-replicate, get_or-set_other, length-map, get_or-map, ext_get_or}
+use Rattle.std.proofs.Common.{replicate, refl, ◌≡◌, ℕ, ◌<◌, List, [], length, get_or, sym, ◌∙◌, ap, arith}
+use Rattle.std.proofs.lemmas.Grind.{get_or-set_at}
+use Rattle.std.proofs.lemmas.List.{map-id, length-replicate, get_or-replicate, get_or-set_other, length-map, get_or-map, ext_get_or}
+use Rattle.std.specs.List.{range_with_len}
 use Rattle.std.proofs.lemmas.List.FromFn.{length-map-range_with_len, get_or-map-range_with_len}
 use Rattle.sc_field.specs.Field.{IsField}
 use Rattle.sc_matrix.specs.Vector.{unit_vector, IsVector, dot, combination}
 use Rattle.sc_matrix.specs.Matrix.{identity, Matrix, IsMatrix, row, row_count, entry, column, apply, transpose, product}
-use Rattle.sc_matrix.proofs.MatrixLaws.{matrix_rows, elements-column, IsMatrix-transpose}
-use Rattle.sc_matrix.proofs.VectorLaws.{length-combination, get_or-combination}
+use Rattle.sc_matrix.proofs.MatrixLaws.{places_below, matrix_rows, elements-column, IsMatrix-transpose}
+use Rattle.sc_matrix.proofs.VectorLaws.{map_same, map_ext, map-map, length-combination, get_or-combination}
 use Rattle.sc_matrix.proofs.ModuleLaws.{dot_comm}
 use Rattle.sc_matrix.proofs.Modules.{field_module}
-use Rattle.sc_matrix.proofs.ProductLaws.{product-identity_left, IsMatrix-identity, same_matrix, IsMatrix-product, entry-product}
+use Rattle.sc_matrix.proofs.ProductLaws.{apply-identity, IsMatrix-identity, same_matrix}
 
 module _ {A : Type 0} where
   -- two matrices of one size with the same entries are equal
@@ -44,42 +45,7 @@ module _ {A : Type 0} where
       entry-transpose zero (transpose zero m) j i (omega arith) (omega arith)
       ∙ entry-transpose zero m i j (omega arith) (omega arith))
 
-  -- column i of the transpose is row i
-  pub column-transpose : (P : A → Type 0) (zero : A) (m : Matrix A) (i : ℕ) → IsMatrix P m → i < row_count m → column zero (transpose zero m) i ≡ row m i
-  column-transpose P zero m i hm h =
-      let n = row_count-transpose zero m in
-      let l = length-map (transpose zero m).rows (λ (r : List A). get_or r i zero) in
-      let w : length (row m i) ≡ m.cols = (hm.vectors i [] h).width in
-      ext_get_or zero (column zero (transpose zero m) i) (row m i) (l ∙ n ∙ sym w)
-      (λ j k.
-      get_or-map (λ (r : List A). get_or r i zero) (transpose zero m).rows j [] zero (omega arith)
-      ∙ entry-transpose zero m i j h (omega arith))
-
 module _ {A : Type 0} {IsElement : A → Type 0} {zero one : A} {add sub mul : A → A → A} {inv : A → A} (laws : IsField IsElement zero one add sub mul inv) where
-  -- The transpose of a product is the product of the transposes in the other order.
-  pub transpose-product : (a b : Matrix A) → IsMatrix IsElement a → IsMatrix IsElement b → a.cols ≡ row_count b → transpose zero (product zero add mul a b) ≡ product zero add mul (transpose zero b) (transpose zero a)
-  transpose-product a b ha hb e =
-      let ta = IsMatrix-transpose zero a ha in
-      let tb = IsMatrix-transpose zero b hb in
-      let p = IsMatrix-product laws (field_module laws) a b ha hb in
-      let na = row_count-transpose zero a in
-      let nb = row_count-transpose zero b in
-      let np = row_count-transpose zero (product zero add mul a b) in
-      let rows : row_count (product zero add mul a b) ≡ row_count a = length-map a.rows _ in
-      let rows' : row_count (product zero add mul (transpose zero b) (transpose zero a)) ≡ row_count (transpose zero b) = length-map (transpose zero b).rows _ in
-      same_entries IsElement zero (transpose zero (product zero add mul a b)) (product zero add mul (transpose zero b) (transpose zero a))
-      (IsMatrix-transpose zero (product zero add mul a b) p) (IsMatrix-product laws (field_module laws) (transpose zero b) (transpose zero a) tb ta) rows (np ∙ sym (rows' ∙ nb))
-      (λ j i h k.
-      let hi : i < row_count a = omega arith in
-      let hj : j < b.cols = omega arith in
-      let i_in : i < row_count (product zero add mul a b) = omega arith in
-      let j_in : j < row_count (transpose zero b) = omega arith in
-      entry-transpose zero (product zero add mul a b) i j i_in hj
-      ∙ entry-product zero add mul a b i j hb hi hj
-      ∙ dot_comm laws (row a i) (column zero b j) (ha.vectors i [] hi) (elements-column zero b j hb hj)
-      ∙ ap₂ (dot zero add mul) (sym (row-transpose zero b j hj)) (sym (column-transpose IsElement zero a i ha hi))
-      ∙ sym (entry-product zero add mul (transpose zero b) (transpose zero a) j i ta j_in hi))
-
   -- a vector times a matrix is the transpose times the vector
   pub apply-transpose : {p : ℕ} (cs : List A) (m : Matrix A) → IsMatrix IsElement m → IsVector IsElement p cs → combination zero add mul m.cols cs m.rows ≡ apply zero add mul (transpose zero m) cs
   apply-transpose cs m hm hc =
@@ -92,16 +58,23 @@ module _ {A : Type 0} {IsElement : A → Type 0} {zero one : A} {add sub mul : A
       ∙ dot_comm laws cs (column zero m j) hc (elements-column zero m j hm (omega arith))
       ∙ sym (get_or-map (λ (r : List A). dot zero add mul r cs) (transpose zero m).rows j [] zero (omega arith) ∙ ap (λ (r : List A). dot zero add mul r cs) (row-transpose zero m j (omega arith))))
 
+  -- The transpose of a product is the product of the transposes in the other order.
+  pub transpose-product : (a b : Matrix A) → IsMatrix IsElement a → IsMatrix IsElement b → a.cols ≡ row_count b → transpose zero (product zero add mul a b) ≡ product zero add mul (transpose zero b) (transpose zero a)
+  transpose-product a b ha hb e =
+      let col : (j : ℕ) → j < b.cols → column zero (product zero add mul a b) j ≡ combination zero add mul (row_count a) (column zero b j) (transpose zero a).rows =
+      λ j h.
+      map-map (λ (r : List A). get_or r j zero) (λ (r : List A). combination zero add mul b.cols r b.rows) a.rows
+      ∙ map_ext _ _ a.rows (λ r. get_or-combination zero add mul b.cols r b.rows j (matrix_rows hb) h)
+      ∙ ap (λ (t : Matrix A). apply zero add mul t (column zero b j)) (sym (transpose-transpose IsElement zero a ha))
+      ∙ sym (apply-transpose (column zero b j) (transpose zero a) (IsMatrix-transpose zero a ha) (elements-column zero b j hb h)) in
+      same_matrix _ _ (length-map a.rows (λ (r : List A). combination zero add mul b.cols r b.rows))
+      (map_same _ _ (range_with_len 0 b.cols) col (places_below b.cols) ∙ sym (map-map (λ (r : List A). combination zero add mul (row_count a) r (transpose zero a).rows) (column zero b) (range_with_len 0 b.cols)))
+
   -- ---- the identity matrix on the right
   unit_turned : (n i j : ℕ) → i < n → j < n → get_or (unit_vector zero one n i) j zero ≡ get_or (unit_vector zero one n j) i zero
   unit_turned n i j h k =
       let l = length-replicate n zero in
-      elim (cases_eq i j) [
-        | inl same ↦ ap₂ (λ (a b : ℕ). get_or (unit_vector zero one n a) b zero) same (sym same)
-        | inr apart ↦
-            get_or-set_other (replicate n zero) i j one zero (λ e. apart (sym e)) ∙ get_or-replicate n j zero zero k
-            ∙ sym (get_or-set_other (replicate n zero) j i one zero apart ∙ get_or-replicate n i zero zero h)
-      ]
+      grind (arith, get_or-set_at, get_or-set_other (replicate n zero) i j one zero, get_or-set_other (replicate n zero) j i one zero, get_or-replicate n j zero zero k, get_or-replicate n i zero zero h)
 
   pub transpose-identity : (n : ℕ) → transpose zero (identity zero one n) ≡ identity zero one n
   transpose-identity n =
@@ -116,13 +89,10 @@ module _ {A : Type 0} {IsElement : A → Type 0} {zero one : A} {add sub mul : A
 
   pub product-identity_right : (a : Matrix A) → IsMatrix IsElement a → product zero add mul a (identity zero one a.cols) ≡ a
   product-identity_right a ha =
-      let n = a.cols in
-      let hi = IsMatrix-identity laws n in
-      let l : row_count (identity zero one n) ≡ n = length-map-range_with_len (unit_vector zero one n) 0 n in
-      let p = product zero add mul a (identity zero one n) in
-      let turned : transpose zero p ≡ transpose zero a =
-      transpose-product a (identity zero one n) ha hi (sym l) ∙ ap (λ (t : Matrix A). product zero add mul t (transpose zero a)) (transpose-identity n)
-      ∙ ap (λ (k : ℕ). product zero add mul (identity zero one k) (transpose zero a)) (sym (row_count-transpose zero a))
-      ∙ product-identity_left laws (field_module laws) (transpose zero a) (IsMatrix-transpose zero a ha) in
-      sym (transpose-transpose IsElement zero p (IsMatrix-product laws (field_module laws) a (identity zero one n) ha hi)) ∙ ap (transpose zero) turned
-      ∙ transpose-transpose IsElement zero a ha
+      let I = identity zero one a.cols in
+      let hi = IsMatrix-identity laws a.cols in
+      let l : row_count I ≡ a.cols = length-map-range_with_len (unit_vector zero one a.cols) 0 a.cols in
+      same_matrix (product zero add mul a I) a refl
+      (map_same (λ (r : List A). combination zero add mul a.cols r I.rows) (λ (r : List A). r) a.rows
+      (λ r hr. apply-transpose r I hi hr ∙ ap (λ (t : Matrix A). apply zero add mul t r) (transpose-identity a.cols) ∙ apply-identity laws (field_module laws) a.cols r hr)
+      (matrix_rows ha) ∙ map-id a.rows)

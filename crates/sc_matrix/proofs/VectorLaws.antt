@@ -1,6 +1,6 @@
 -- Vectors under any operations: their lengths, their entries, and maps of them.
 use Rattle.std.proofs.Common.{◌≡◌, ℕ, zero as none, suc, ◌+◌, ◌-◌, ◌<◌, ◌≤◌, List, [], ◌∷◌, ◌++◌, length, get_or, set, map, take, drop, replicate, All, refl, sym, ◌∙◌, ap, ap₂, arith}
-use Rattle.std.proofs.lemmas.List.{length-map, length-replicate, length-append, length-take-le, length-drop, length-set, get_or-map, get_or-replicate}
+use Rattle.std.proofs.lemmas.List.{drop_more, length-map, length-replicate, length-append, length-take-le, length-drop, length-set, get_or-map, get_or-replicate}
 use Rattle.std.proofs.lemmas.List.Elements.{All-nil, All-head, All-tail, All-cons, All-map, All-replicate, All-append, All-take, All-drop, All-set}
 use Rattle.sc_matrix.specs.Vector.{IsVector, add_vectors, scale_vector, dot, combination}
 
@@ -56,12 +56,14 @@ module _ {A : Type 0} {P : A → Type 0} where
   map_same {B = B} f g (x ∷ xs) each h = ap₂ (λ (y : B) (ys : List B). y ∷ ys) (each x (head h)) (map_same f g xs each (tail h))
 
   pub map_const : {B : Type 0} (f : A → B) (y : B) (xs : List A) {n : ℕ} → ((x : A) → P x → f x ≡ y) → IsVector P n xs → map f xs ≡ replicate n y
-  map_const f y [] {n = none} each h = refl
-  map_const f y [] {n = suc n} each h = let w = h.width in absurd (omega arith)
-  map_const f y (x ∷ xs) {n = none} each h = let w = h.width in absurd (omega arith)
-  map_const {B = B} f y (x ∷ xs) {n = suc n} each h =
-      let t : IsVector P n xs = record { width = (let w = h.width in omega arith); entries = (tail h).entries } in
-      ap₂ (λ (z : B) (zs : List B). z ∷ zs) (each x (head h)) (map_const f y xs each t)
+  map_const f y [] each h = rw (← h.width) refl
+  map_const {B = B} f y (x ∷ xs) each h = rw (← h.width) (ap₂ (λ (z : B) (zs : List B). z ∷ zs) (each x (head h)) (map_const f y xs each (vector_of xs (tail h).entries)))
+
+  -- a sum with zeros
+  pub add_vectors-none : (plus : A → A → A) (zero : A) (xs : List A) {n : ℕ} → ((x : A) → P x → plus x zero ≡ x) → IsVector P n xs → add_vectors plus xs (replicate n zero) ≡ xs
+  add_vectors-none plus zero [] each h = refl
+  add_vectors-none plus zero (x ∷ xs) each h =
+      rw (← h.width) (ap₂ (λ (y : A) (ys : List A). y ∷ ys) (each x (head h)) (add_vectors-none plus zero xs each (vector_of xs (tail h).entries)))
 
   -- the sum of two maps
   pub map-plus : {B : Type 0} (plus : B → B → B) (f g h : A → B) (xs : List A) {n : ℕ} → ((x : A) → P x → f x ≡ plus (g x) (h x)) → IsVector P n xs → map f xs ≡ add_vectors plus (map g xs) (map h xs)
@@ -79,6 +81,10 @@ pub map-map : {A B C : Type 0} (f : B → C) (g : A → B) (xs : List A) → map
 map-map f g [] = refl
 map-map {C = C} f g (x ∷ xs) = ap (λ (ys : List C). f (g x) ∷ ys) (map-map f g xs)
 
+pub map_ext : {A B : Type 0} (f g : A → B) (xs : List A) → ((x : A) → f x ≡ g x) → map f xs ≡ map g xs
+map_ext f g [] each = refl
+map_ext {B = B} f g (x ∷ xs) each = ap₂ (λ (y : B) (ys : List B). y ∷ ys) (each x) (map_ext f g xs each)
+
 -- ---- lengths and entries
 module _ {A : Type 0} where
   pub length-add_vectors : (add : A → A → A) (xs ys : List A) → length xs ≡ length ys → length (add_vectors add xs ys) ≡ length xs
@@ -87,10 +93,9 @@ module _ {A : Type 0} where
   length-add_vectors add (x ∷ xs) (y ∷ ys) e = ap suc (length-add_vectors add xs ys (omega arith))
 
   pub get_or-add_vectors : (add : A → A → A) (xs ys : List A) (i : ℕ) (d : A) → length xs ≡ length ys → i < length xs → get_or (add_vectors add xs ys) i d ≡ add (get_or xs i d) (get_or ys i d)
-  get_or-add_vectors add [] ys i d e h = absurd (omega arith)
-  get_or-add_vectors add (x ∷ xs) [] i d e h = absurd (omega arith)
   get_or-add_vectors add (x ∷ xs) (y ∷ ys) none d e h = refl
   get_or-add_vectors add (x ∷ xs) (y ∷ ys) (suc i) d e h = get_or-add_vectors add xs ys i d (omega arith) (omega arith)
+  get_or-add_vectors add xs ys i d e h = absurd (omega arith)
 
   pub length-scale_vector : {C : Type 0} (mul : C → A → A) (c : C) (xs : List A) → length (scale_vector mul c xs) ≡ length xs
   length-scale_vector mul c xs = length-map xs (mul c)
@@ -98,7 +103,11 @@ module _ {A : Type 0} where
   pub get_or-scale_vector : {C : Type 0} (mul : C → A → A) (c : C) (xs : List A) (i : ℕ) (d : A) → i < length xs → get_or (scale_vector mul c xs) i d ≡ mul c (get_or xs i d)
   get_or-scale_vector mul c xs i d h = get_or-map (mul c) xs i d d h
 
-  -- places before and behind
+  -- the term at place k and those behind it
+  pub dot_next : {C : Type 0} (zero : A) (add : A → A → A) (mul : C → A → A) (cs : List C) (vs : List A) (k : ℕ) (d : C) (e : A) → k < length cs → k < length vs
+      → dot zero add mul (drop k cs) (drop k vs) ≡ add (mul (get_or cs k d) (get_or vs k e)) (dot zero add mul (drop (k + 1) cs) (drop (k + 1) vs))
+  dot_next zero add mul cs vs k d e h l = ap₂ (dot zero add mul) (drop_more cs k d h) (drop_more vs k e l)
+
   pub dot_nil_right : {C : Type 0} (zero : A) (add : A → A → A) (mul : C → A → A) (cs : List C) → dot zero add mul cs [] ≡ zero
   dot_nil_right zero add mul [] = refl
   dot_nil_right zero add mul (c ∷ cs) = refl

@@ -17,6 +17,7 @@ pub(crate) struct Rows {
     ghost small: { count * width ≤ most_entries },
 }
 
+#[tactic(auto, using(crate::proofs::LayoutSteps::rows_steps))]
 impl Rows {
     ghost use Rattle.std.specs.Prelude.{◌≡◌, ◌≢◌, ◌+◌, ◌*◌, ◌^◌, ◌<◌, ◌≤◌, ◌++◌, ℕ, map, take, drop, IfOk, OnOk, OnErr, MatchOption, All, length, bit_xor, slice_index_or};
     ghost use Rattle.sc_field.specs.Field.{IsNumber};
@@ -151,6 +152,7 @@ impl Rows {
         first_nonzero(self.row(i))
     }
 
+    #[tactic(auto, using(crate::proofs::ByteSteps::two_rows))]
     pub(crate) fn row_swap(&mut self, a: usize, b: usize)
         requires first { a < self.old.count }
         requires second { b < self.old.count }
@@ -173,6 +175,7 @@ impl Rows {
     }
 
     // Adds `c` times row `b` to row `a`, another one, from place `from` on.
+    #[tactic(auto, using(crate::proofs::ByteSteps::two_rows))]
     pub(crate) fn row_add<F: Field>(&mut self, a: usize, c: F, b: usize, from: usize)
         requires target { a < self.old.count }
         requires source { b < self.old.count }

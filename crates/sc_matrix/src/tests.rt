@@ -289,12 +289,8 @@ fn product_of_size<F: Field>(
 }
 
 #[test]
-fn product_of_real_size(rt: HostRuntime) -> Result<(), Fail> {
-    product_of_size::<Gf256>(&rt, rt.alloc(), 300, 600, 256)
-}
-
-#[test]
-fn product_of_bits(rt: HostRuntime) -> Result<(), Fail> {
+fn products_of_real_size(rt: HostRuntime) -> Result<(), Fail> {
+    product_of_size::<Gf256>(&rt, rt.alloc(), 300, 600, 256)?;
     product_of_size::<Gf2>(&rt, rt.alloc(), 70, 130, 2)
 }
 
@@ -425,34 +421,28 @@ fn row_operations_of_real_size(rt: HostRuntime) -> Result<(), Fail> {
     Ok(())
 }
 
-#[test]
-fn over_gf256(rt: HostRuntime) -> Result<(), Fail> {
-    image_of_matrix::<Gf256>(&rt, rt.alloc(), [1, 2, 3, 1], [1, 2], [5, 1])?;
-    image_of_vector::<Gf256>(&rt, rt.alloc(), [1, 2, 3, 1], [1, 2], [5, 1])?;
-    shapes::<Gf256>(&rt, rt.alloc(), [1, 2, 3, 1])?;
-    whole_rows::<Gf256>(&rt, rt.alloc(), [1, 2, 3, 1])?;
-    zeros_in_rows::<Gf256>(&rt, rt.alloc())?;
-    row_operations::<Gf256>(
-        &rt,
-        rt.alloc(),
-        [1, 2, 3, 1],
-        2,
-        [[3, 1, 1, 2], [6, 2, 1, 2], [4, 6, 1, 2]],
-    )
+// Each public call on the square with these numbers.
+fn over<F: Field>(
+    rt: &impl Abort,
+    alloc: Global,
+    numbers: [u8; 4],
+    column: [u8; 2],
+    image: [u8; 2],
+    factor: u8,
+    ends: [[u8; 4]; 3],
+) -> Result<(), Fail> {
+    image_of_matrix::<F>(rt, alloc, numbers, column, image)?;
+    image_of_vector::<F>(rt, alloc, numbers, column, image)?;
+    shapes::<F>(rt, alloc, numbers)?;
+    whole_rows::<F>(rt, alloc, numbers)?;
+    zeros_in_rows::<F>(rt, alloc)?;
+    row_operations::<F>(rt, alloc, numbers, factor, ends)
 }
 
 #[test]
-fn over_gf2(rt: HostRuntime) -> Result<(), Fail> {
-    image_of_matrix::<Gf2>(&rt, rt.alloc(), [1, 0, 1, 1], [1, 1], [1, 0])?;
-    image_of_vector::<Gf2>(&rt, rt.alloc(), [1, 0, 1, 1], [1, 1], [1, 0])?;
-    shapes::<Gf2>(&rt, rt.alloc(), [1, 0, 1, 1])?;
-    whole_rows::<Gf2>(&rt, rt.alloc(), [1, 0, 1, 1])?;
-    zeros_in_rows::<Gf2>(&rt, rt.alloc())?;
-    row_operations::<Gf2>(
-        &rt,
-        rt.alloc(),
-        [1, 0, 1, 1],
-        1,
-        [[1, 1, 1, 0], [1, 1, 1, 0], [0, 1, 1, 0]],
-    )
+fn over_both_fields(rt: HostRuntime) -> Result<(), Fail> {
+    let bytes = [[3, 1, 1, 2], [6, 2, 1, 2], [4, 6, 1, 2]];
+    let bits = [[1, 1, 1, 0], [1, 1, 1, 0], [0, 1, 1, 0]];
+    over::<Gf256>(&rt, rt.alloc(), [1, 2, 3, 1], [1, 2], [5, 1], 2, bytes)?;
+    over::<Gf2>(&rt, rt.alloc(), [1, 0, 1, 1], [1, 1], [1, 0], 1, bits)
 }

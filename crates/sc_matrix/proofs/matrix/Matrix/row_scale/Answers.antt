@@ -1,26 +1,8 @@
-use Rattle.std.proofs.Common.{ap, ◌∙◌, arith}
-use Rattle.sc_matrix.specs.Matrix.{Matrix, scale_row}
-use Rattle.sc_matrix.specs.Layout.{map_matrix}
-use Rattle.sc_matrix.specs.Rows.{table}
-use Rattle.sc_matrix.proofs.NumberLaws.{count_of, numbers-scale_row}
-use Rattle.sc_matrix.proofs.LayoutLaws.{length-cut}
+use Rattle.sc_matrix.proofs.NumberLaws.{row_scaled}
 use Rattle.sc_matrix.proofs.matrix.Matrix.row_scale.Goals as goal
 
-pub row_scale-requires : goal.row_scale-requires
-row_scale-requires g c = omega (arith, count_of g.F.Field.element c.self.inside.numbers c.args.self.now c.self.view_is)
-
 pub invariant_of-self : goal.invariant_of-self
-invariant_of-self g c =
-    let r = c.self.inside.numbers in
-    let n = length-cut r.count r.width r.bytes.items in
-    let k = count_of g.F.Field.element r c.args.self.now c.self.view_is in
-    rw c.row_scale.ensures (numbers-scale_row g.met.F.Field.field g.met.F.Field.action g.met.F.Field.numbered g.met.F.Field.by_number (table r) c.self.invariant c.args.a c.args.c c.known.ensures (omega arith)).0
+invariant_of-self g c = (row_scaled g.met.F.Field.field g.met.F.Field.action g.met.F.Field.numbered g.met.F.Field.by_number c.self.inside.numbers c.self.invariant c.self.view_is c.args.a c.args.c c.known.ensures c.requires.row c.row_scale.ensures).0
 
 pub returns : goal.returns
-returns g c =
-    let r = c.self.inside.numbers in
-    let f = g.F.Field.element in
-    let n = length-cut r.count r.width r.bytes.items in
-    let k = count_of f r c.args.self.now c.self.view_is in
-    ap (map_matrix f) c.row_scale.ensures ∙ (numbers-scale_row g.met.F.Field.field g.met.F.Field.action g.met.F.Field.numbered g.met.F.Field.by_number (table r) c.self.invariant c.args.a c.args.c c.known.ensures (omega arith)).1
-    ∙ ap (λ (m : Matrix g.row.F.Denot). scale_row g.F.Field.mul m c.args.a c.args.c) c.self.view_is
+returns g c = (row_scaled g.met.F.Field.field g.met.F.Field.action g.met.F.Field.numbered g.met.F.Field.by_number c.self.inside.numbers c.self.invariant c.self.view_is c.args.a c.args.c c.known.ensures c.requires.row c.row_scale.ensures).1
