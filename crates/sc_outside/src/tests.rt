@@ -156,6 +156,58 @@ fn a_port_of_real_size(rt: HostRuntime) -> Result<(), Fail> {
     Ok(())
 }
 
+// What a read of a buffer of this size answers, and the buffer after it.
+fn read_of(port: &mut GrowPort, buf: &mut [u8; 4], size: usize) -> Result<usize, Failed> {
+    match size {
+        0 => read_exact_or_end(port, buf),
+        _ => port.read(&mut buf[..size.min(4)]),
+    }
+}
+
+#[test]
+fn a_port_that_grows(rt: HostRuntime) -> Result<(), Fail> {
+    let input = Vec::from_slice(rt.alloc(), &[1, 2, 3, 4, 5, 6])?;
+    let mut port = GrowPort::new(rt.alloc(), input, 2)?;
+    let mut buf = [0; 4];
+    // A read of so many bytes, what it answers, the buffer after it, and what is left; 0 reads until the buffer is full.
+    let table: [(usize, usize, [u8; 4], usize); 5] = [
+        (3, 3, [1, 2, 3, 0], 3),
+        (1, 1, [4, 2, 3, 0], 2),
+        (4, 2, [5, 6, 3, 0], 0),
+        (4, 0, [5, 6, 3, 0], 0),
+        (0, 0, [5, 6, 3, 0], 0),
+    ];
+    for (size, answer, bytes, left) in table {
+        assert_eq!(rt; read_of(&mut port, &mut buf, size), Ok(answer), "{size}");
+        assert!(rt; buf == bytes && port.ready() == left, "{size}");
+    }
+    // the third write is the first that finds no room
+    for (piece, len) in [(b"a".as_slice(), 1), (b"b", 1), (b"cdefg", 5), (b"h", 1)] {
+        assert_eq!(rt; port.write(piece), Ok(len));
+    }
+    assert_eq!(rt; port.into_given().as_slice(), b"abcdefgh".as_slice());
+    Ok(())
+}
+
+// A million bytes through a port that reserved too few, and through one that reserved all.
+#[test]
+fn a_growing_port_of_real_size(rt: HostRuntime) -> Result<(), Fail> {
+    for reserve in [0, 1_000_000] {
+        let input = vec![in rt.alloc(); 7; 1_000_000]?;
+        let mut port = GrowPort::new(rt.alloc(), input, reserve)?;
+        let mut buf = [0; 1_000];
+        for _ in 0..1_000 {
+            assert_eq!(rt; read_exact_or_end(&mut port, &mut buf), Ok(1_000));
+            assert_eq!(rt; write_whole(&mut port, &buf), Ok(()));
+        }
+        assert_eq!(rt; port.ready(), 0);
+        let given = port.into_given();
+        assert_eq!(rt; given.len(), 1_000_000);
+        assert!(rt; given.iter().all(|byte| *byte == 7));
+    }
+    Ok(())
+}
+
 #[test]
 fn a_sink_of_real_size(rt: HostRuntime) -> Result<(), Fail> {
     let mut sink = MemorySink::new(rt.alloc(), 65_536, Vec::new(rt.alloc()))?;
