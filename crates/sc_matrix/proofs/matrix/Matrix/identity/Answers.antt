@@ -1,10 +1,19 @@
 use Rattle.std.proofs.Common.{◌≡◌, ℕ, List, [], length, map, ap₂, arith}
 use Rattle.std.specs.List.{range_with_len}
+use Rattle.std.proofs.lemmas.Grind.{common_steps}
 use Rattle.std.proofs.lemmas.List.FromFn.{length-range_with_len, get_or-range_with_len}
 use Rattle.sc_matrix.specs.Vector.{unit_vector}
 use Rattle.sc_matrix.specs.Matrix.{Matrix}
 use Rattle.sc_matrix.proofs.LayoutSteps.{mapped_all}
 use Rattle.sc_matrix.proofs.matrix.Matrix.identity.Goals as goal
+
+pub loop-i-preserved : goal.loop-i-preserved
+loop-i-preserved g c = record {
+  count = grind (arith, common_steps);
+  cols = grind (arith, common_steps);
+  done = λ k h. grind (arith, common_steps, c.loop-i.invariant.rest c.loop-i.i);
+  rest = λ k h l. grind (arith, common_steps, c.loop-i.invariant.rest k);
+}
 
 pub returns : goal.returns
 returns g c =
