@@ -84,18 +84,18 @@ clash_of repair.Write h = absurd (omega (arith, h))
 clash_of repair.Memory h = absurd (omega (arith, h))
 
 -- by whether none is missed
-abbrev done_status : Bool → ℕ
+abbrev pub done_status : Bool → ℕ
 done_status none = if none then 0 else 5
 
-none_by : (missed : ℕ) (none : Bool) → (missed == 0) ≡ none → done_status none ≡ 0 → missed ≡ 0
+pub none_by : (missed : ℕ) (none : Bool) → (missed == 0) ≡ none → done_status none ≡ 0 → missed ≡ 0
 none_by missed true e h = eqb-true missed 0 e
 none_by missed false e h = absurd (omega (arith, h))
 
-some_by : (missed : ℕ) (none : Bool) → (missed == 0) ≡ none → done_status none ≡ 5 → 1 ≤ missed
+pub some_by : (missed : ℕ) (none : Bool) → (missed == 0) ≡ none → done_status none ≡ 5 → 1 ≤ missed
 some_by missed true e h = absurd (omega (arith, h))
 some_by missed false e h = grind (arith, nat_tests, e)
 
-status_some : (missed : ℕ) → 1 ≤ missed → missed_status missed ≡ 5
+pub status_some : (missed : ℕ) → 1 ≤ missed → missed_status missed ≡ 5
 status_some missed h = let test : (missed == 0) ≡ false = grind (arith, nat_tests, h) in ap done_status test
 
 not_six : (none : Bool) → done_status none ≡ 6 → ⊥

@@ -1,7 +1,7 @@
 -- `trial`, in the words of slots and of the streams that fit them.
-use Rattle.std.proofs.Common.{◌≡◌, ◌⊎◌, inl, inr, ℕ, zero as naught, suc, ◌+◌, ◌==◌, ◌<◌, ◌≤◌, if◌then◌else◌, Bool, true, false, cond, nat_lt, Option, Some, None, is_none, List, [], ◌∷◌, length, slice_index_or, Ok, Err, refl, sym, ap, ◌∙◌, subst, arith}
+use Rattle.std.proofs.Common.{◌≡◌, inl, inr, ℕ, zero as naught, suc, ◌==◌, ◌<◌, ◌≤◌, Bool, true, false, cond, nat_lt, Option, Some, None, is_none, List, [], ◌∷◌, length, slice_index_or, Ok, Err, refl, sym, ap, ◌∙◌, arith}
 use Rattle.std.specs.Prelude.{count_by}
-use Rattle.std.proofs.lemmas.Bool.{cases_lt, eqb-true}
+use Rattle.std.proofs.lemmas.Bool.{cases_lt}
 use Rattle.std.proofs.lemmas.Bool.Decides.{nat_tests}
 use Rattle.std.proofs.lemmas.List.Sums.{sum_by-cons}
 use Rattle.sc_field.specs.Gf256.{gf256_product}
@@ -12,7 +12,7 @@ use Rattle.sc_slots.specs.Protected.{protection_of}
 use Rattle.sc_slots.specs.Repair.{IsOutcome}
 use Rattle.sc_trial.specs.declared.outcome.TrialFault.TheVariants.{TooWide}
 use Rattle.sc_trial.specs.GeneratedLaws.{IsWithinLimits}
-use Rattle.sc_trial.specs.Trial.{trial_taken, tried, trial_of, IsTrial}
+use Rattle.sc_trial.specs.Trial.{trial_taken, tried, IsTrial}
 use Rattle.sc_trial.proofs.TrialSteps.{tried-is}
 use Rattle.streamcode.specs.declared.end.Role.TheVariants.{Code}
 use Rattle.streamcode.specs.declared.end.End.{End}
@@ -22,6 +22,7 @@ use Rattle.streamcode.specs.Plans.{owes, due_of}
 use Rattle.streamcode.specs.Runs.{command_plan}
 use Rattle.streamcode.specs.TrialLaws.{due_of_trial, WordsSayWhatIsTried, packet_of, FitsRecord, ComesBack, NumbersAreDue, ZeroIsAllRecovered, FiveIsSomeMissed, FourIsTooWide, WideIsTold}
 use Rattle.streamcode.proofs.FileLaws.{due-file}
+use Rattle.streamcode.proofs.RepairLaws.{done_status, none_by, some_by, status_some}
 
 -- ---- what the words say
 pub words-tried : WordsSayWhatIsTried
@@ -50,24 +51,9 @@ module _ {X : Type 0} where
 
 -- ---- statuses
 
--- by whether none is missed
-abbrev done_status : Bool → ℕ
-done_status none = if none then 0 else 5
-
-zero_by : (missed : ℕ) (none : Bool) → (missed == 0) ≡ none → done_status none ≡ 0 → missed ≡ 0
-zero_by missed true e h = eqb-true missed 0 e
-zero_by missed false e h = absurd (omega (arith, h))
-
-five_by : (missed : ℕ) (none : Bool) → (missed == 0) ≡ none → done_status none ≡ 5 → 1 ≤ missed
-five_by missed true e h = absurd (omega (arith, h))
-five_by missed false e h = grind (arith, nat_tests, e)
-
 not_four : (none : Bool) → done_status none ≡ 4 → ⊥
 not_four true h = omega (arith, h)
 not_four false h = omega (arith, h)
-
-status_some : (missed : ℕ) → 1 ≤ missed → missed_status missed ≡ 5
-status_some missed h = let test : (missed == 0) ≡ false = grind (arith, nat_tests, h) in ap done_status test
 
 narrow_is : (n : ℕ) → n ≤ 65527 → nat_lt 65527 n ≡ false
 narrow_is n h = grind (arith, nat_tests, h)
@@ -158,7 +144,7 @@ zero-all-recovered file seed count size input within = (
   λ s.
       (let fits = fits_by file seed count size input 0 s (λ e. omega (arith, e)) in
       let missed = (tried file seed count size).missed in
-      (fits, all_back file seed count size input within (zero_by missed (missed == 0) refl (sym (status_narrow file seed count size input fits) ∙ s)))),
+      (fits, all_back file seed count size input within (none_by missed (missed == 0) refl (sym (status_narrow file seed count size input fits) ∙ s)))),
   λ h. status_narrow file seed count size input h.0 ∙ ap missed_status (none_missed file seed count size input within h.1),
 )
 
@@ -167,7 +153,7 @@ five-some-missed file seed count size input within = (
   λ s.
       (let fits = fits_by file seed count size input 5 s (λ e. omega (arith, e)) in
       let missed = (tried file seed count size).missed in
-      (fits, one_missed file seed count size input within (five_by missed (missed == 0) refl (sym (status_narrow file seed count size input fits) ∙ s)))),
+      (fits, one_missed file seed count size input within (some_by missed (missed == 0) refl (sym (status_narrow file seed count size input fits) ∙ s)))),
   λ h. status_narrow file seed count size input h.0 ∙ status_some (tried file seed count size).missed (some_missed file seed count size input within h.1.0 h.1.1 h.1.2),
 )
 
