@@ -7,6 +7,7 @@ use Rattle.sc_matrix.specs.Vector.{IsVector}
 use Rattle.sc_matrix.specs.Layout.{cut}
 use Rattle.sc_matrix.proofs.LayoutLaws.{length-cut}
 use Rattle.sc_echelon.specs.Knowledge.{Knowledge, IsSolution, IsBytes, Forgets}
+use Rattle.sc_code.specs.Code.{Code}
 use Rattle.sc_code.specs.Stream.{IsBlock, block_at}
 use Rattle.sc_slots.specs.Taken.{Taken, one_past, claimed, claimed_or, known_end}
 use Rattle.sc_slots.specs.Repair.{IsRecovered, IsSettledAs, IsMissed, IsSettled, IsClash}
@@ -24,8 +25,8 @@ use Rattle.sc_repair.proofs.StandsSteps.{history_at_start, history_given_up, his
 
 -- ---- start
 
-pub Stands-start : (k r memory deadline m : ℕ) (known : Knowledge ℕ) (block : List ℕ) → ((symbols : List (List ℕ)) → IsVector (IsBytes m) (places_for memory deadline * k) symbols → IsSolution gf256_product known symbols) → Stands (kept_by k r memory deadline m 0 0 0 0 0 false false known block) []
-Stands-start k r memory deadline m known block any =
+pub Stands-start : (k r memory deadline m : ℕ) (known : Knowledge ℕ) (block : List ℕ) (own : Code ℕ) → ((symbols : List (List ℕ)) → IsVector (IsBytes m) (places_for memory deadline * k) symbols → IsSolution gf256_product known symbols) → Stands (kept_by k r memory deadline m 0 0 0 0 0 false false known block own) []
+Stands-start k r memory deadline m known block own any =
     record {
       put = 0;
       put_before = omega arith;

@@ -30,7 +30,7 @@ use Rattle.sc_repair.specs.Columns.{stored_row, all_known, HasStored, IsFree, Is
 pub are_bytes : (bytes : List ℕ) → ((i : ℕ) → Fits w8 (get_or bytes i 0)) → All IsByte bytes
 are_bytes bytes f = All-from_get_or IsByte bytes 0 (λ i lt. (f i).fits)
 
-cases : (b : Bool) → (b ≡ true) ⊎ (b ≡ false)
+pub cases : (b : Bool) → (b ≡ true) ⊎ (b ≡ false)
 cases true = inl refl
 cases false = inr refl
 
@@ -49,7 +49,7 @@ module_of w = bytes_module gf256_action w
 value_of_sum : (w : ℕ) (cs : List ℕ) (vs : List (List ℕ)) → All IsByte cs → All (IsBytes w) vs → IsBytes w (combination 0 bit_xor gf256_product w cs vs)
 value_of_sum w cs vs a b = dot_value gf256_field (module_of w) cs vs a b
 
-xor_back : (a t : List ℕ) → length a ≡ length t → add_vectors bit_xor (add_vectors bit_xor a t) t ≡ a
+pub xor_back : (a t : List ℕ) → length a ≡ length t → add_vectors bit_xor (add_vectors bit_xor a t) t ≡ a
 xor_back [] t e = refl
 xor_back (x ∷ a) [] e = absurd (omega arith)
 xor_back (x ∷ a) (y ∷ t) e =

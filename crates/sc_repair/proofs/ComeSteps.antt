@@ -24,7 +24,7 @@ use Rattle.sc_repair.proofs.PlaceSteps.{none_put, first_width}
 abbrev pub IsNew : CodeFile → ℕ → Repairer → Type 0
 IsNew file m s =
     Stands s [] × ((s.k ≡ file.code.k) × (s.r ≡ file.code.r) × (s.memory + 1 ≡ length file.code.lags))
-    × ((s.deadline ≡ file.channel.t) × (s.m ≡ m) × (s.passed ≡ 0) × (s.next ≡ 0) × (s.finished ≡ false))
+    × ((s.deadline ≡ file.channel.t) × (s.m ≡ m) × (s.passed ≡ 0) × (s.next ≡ 0) × (s.finished ≡ false)) × (s.own ≡ file.code)
 
 pub new_set : (file : CodeFile) (m : ℕ) (s : Repairer) → IsNew file m s → IsSet file s 0
 new_set file m s h = record {
@@ -35,6 +35,7 @@ new_set file m s h = record {
   goes_on = h.2.4;
   near = omega (arith, h.2.2);
   few = omega arith;
+  own = h.3;
 }
 
 new_rests : (file : CodeFile) (m : ℕ) (s : Repairer) → IsNew file m s → Rests file [] s 0 []

@@ -4,6 +4,7 @@ pub mod EndSteps
 pub mod PromptSteps
 pub mod EquationSteps
 pub mod WindowSteps
+pub mod SumSteps
 pub mod ColumnSteps
 pub mod StandsSteps
 pub mod CallSteps

@@ -1,8 +1,8 @@
 -- What the calls on a window do to its bytes.
-use Rattle.std.proofs.Common.{◌≡◌, ℕ, ◌+◌, ◌-◌, ◌≤◌, List, ◌++◌, length, take, drop, replicate, sym, ap, ap₂, ◌∙◌, arith, refl}
-use Rattle.std.proofs.lemmas.List.{length-replicate, length-append, length-take-le, length-drop, take-append-drop, take-append-le, drop-append-le, drop-drop, drop_at, take_at, take-replicate, drop-replicate, replicate-append-replicate, append_assoc, take_all, drop_all, take-take, drop-take}
+use Rattle.std.proofs.Common.{◌≡◌, ℕ, ◌+◌, ◌-◌, ◌≤◌, List, ◌++◌, length, take, drop, replicate, sym, ap, ap₂, ◌∙◌, arith}
+use Rattle.std.proofs.lemmas.List.{length-replicate, length-append, length-take-le, length-drop, take-append-drop, drop-append-le, drop-drop, drop_at, take_at, drop-replicate, replicate-append-replicate, append_assoc, take-take, drop-take}
 use Rattle.std.proofs.Math.Seq.{take-append-add}
-use Rattle.std.proofs.lemmas.Slice.{drop-put_mid, take-put_mid_below, between-put_mid}
+use Rattle.std.proofs.lemmas.Slice.{drop-put_mid}
 use borrow.Rule.Slice.PartMut.{put_mid}
 use Rattle.sc_repair.specs.Window.{IsWindow}
 

@@ -3,6 +3,7 @@ pub mod Stands
 pub mod Equations
 pub mod Columns
 pub mod Window
+pub mod Sum
 pub mod Fit
 pub mod Takes
 pub mod Values

@@ -36,6 +36,7 @@ pub record IsSet (file : CodeFile) (s : Repairer) (missed : ℕ) : Type 0 where
   pub goes_on : s.finished ≡ false
   pub near : s.passed ≤ s.next + s.deadline
   pub few : missed ≤ s.next
+  pub own : s.own ≡ file.code
 
 -- the values of the slots that are put out once those passed are
 abbrev pub values_now : Repairer → List (Taken ℕ) → List (Option (List (List ℕ)))

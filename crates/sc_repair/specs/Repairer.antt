@@ -1,14 +1,15 @@
 -- What a repairer keeps.
 use Rattle.std.specs.Prelude.{◌≡◌, ℕ, ◌+◌, ◌-◌, ◌*◌, ◌<◌, ◌≤◌, ◌⊎◌, Bool, true, false, max, List, length, refl}
 use Rattle.std.specs.Coded.{Coded, code_by, coded×, coded_ℕ, coded_bool, coded_list}
-use Rattle.sc_code.specs.Code.{IsInRange}
+use Rattle.sc_code.specs.Code.{Code, code_code, IsInRange}
 use Rattle.sc_echelon.specs.Knowledge.{Knowledge}
 use Rattle.sc_echelon.specs.Kept.{knowledge_code}
+use Rattle.sc_repair.specs.Sum.{RowSum, AreSums}
 
 -- The numbers of the code, the deadline and the bytes of a symbol; the first kept slot, how many slots are passed, and the
 -- next one to be put out; one above the last taken slot, or 0; the end that is claimed, or else one above the greatest
 -- source slot taken, or 0; whether the input is at its end; and what is known of the symbols of the kept slots and of
--- those that find a place behind them. And the block that was put out last.
+-- those that find a place behind them. And the block that was put out last, and the code of the start.
 pub record Repairer : Type 0 where
   pub k : ℕ
   pub r : ℕ
@@ -24,14 +25,15 @@ pub record Repairer : Type 0 where
   pub finished : Bool
   pub known : Knowledge ℕ
   pub block : List ℕ
+  pub own : Code ℕ
 
 -- a repairer is stored as the tuple of its fields
 abbrev pub repairer_code : Coded Repairer
 repairer_code =
-    code_by ((((ℕ × ℕ) × (ℕ × ℕ)) × ((ℕ × ℕ) × (ℕ × ℕ))) × (((ℕ × ℕ) × (Bool × Bool)) × (Knowledge ℕ × List ℕ)))
+    code_by ((((ℕ × ℕ) × (ℕ × ℕ)) × ((ℕ × ℕ) × (ℕ × ℕ))) × (((ℕ × ℕ) × (Bool × Bool)) × (Knowledge ℕ × (List ℕ × Code ℕ))))
     (coded× (coded× (coded× (coded× coded_ℕ coded_ℕ) (coded× coded_ℕ coded_ℕ)) (coded× (coded× coded_ℕ coded_ℕ) (coded× coded_ℕ coded_ℕ)))
-    (coded× (coded× (coded× coded_ℕ coded_ℕ) (coded× coded_bool coded_bool)) (coded× (knowledge_code coded_ℕ) (coded_list coded_ℕ))))
-    (λ s. ((((s.k, s.r), (s.memory, s.deadline)), ((s.m, s.front), (s.passed, s.next))), (((s.past, s.end), (s.is_claimed, s.finished)), (s.known, s.block))))
+    (coded× (coded× (coded× coded_ℕ coded_ℕ) (coded× coded_bool coded_bool)) (coded× (knowledge_code coded_ℕ) (coded× (coded_list coded_ℕ) (code_code coded_ℕ)))))
+    (λ s. ((((s.k, s.r), (s.memory, s.deadline)), ((s.m, s.front), (s.passed, s.next))), (((s.past, s.end), (s.is_claimed, s.finished)), (s.known, (s.block, s.own)))))
     (λ p. record {
       k = p.0.0.0.0;
       r = p.0.0.0.1;
@@ -46,7 +48,8 @@ repairer_code =
       is_claimed = p.1.0.1.0;
       finished = p.1.0.1.1;
       known = p.1.1.0;
-      block = p.1.1.1;
+      block = p.1.1.1.0;
+      own = p.1.1.1.1;
     })
     (λ _. refl)
 
@@ -79,8 +82,8 @@ FitsEnd false least number end = (end ≡ 0) ⊎ ((0 < end) × (least ≤ number
 FitsEnd true known number end = (0 < end) × (number + 1 - end ≡ known)
 
 -- the repairer of these numbers
-abbrev pub kept_by : ℕ → ℕ → ℕ → ℕ → ℕ → ℕ → ℕ → ℕ → ℕ → ℕ → Bool → Bool → Knowledge ℕ → List ℕ → Repairer
-kept_by k r memory deadline m front passed next past end is_claimed finished known block = record {
+abbrev pub kept_by : ℕ → ℕ → ℕ → ℕ → ℕ → ℕ → ℕ → ℕ → ℕ → ℕ → Bool → Bool → Knowledge ℕ → List ℕ → Code ℕ → Repairer
+kept_by k r memory deadline m front passed next past end is_claimed finished known block own = record {
   k = k;
   r = r;
   memory = memory;
@@ -95,10 +98,15 @@ kept_by k r memory deadline m front passed next past end is_claimed finished kno
   finished = finished;
   known = known;
   block = block;
+  own = own;
 }
 
--- the numbers are sound, and there is room for a row
-pub record IsRoomy (s : Repairer) (places : ℕ) (row : List ℕ) : Type 0 where
+-- The numbers are sound, and there is room for a row. The code has the same numbers, and its parity symbols are prepared.
+pub record IsRoomy (s : Repairer) (places : ℕ) (row : List ℕ) (sums : List RowSum) : Type 0 where
   pub sound : IsSound s
   pub place_count : places ≡ places_for s.memory s.deadline
   pub row_room : length row ≡ places * s.k
+  pub own_symbols : s.own.k ≡ s.k
+  pub own_parities : s.own.r ≡ s.r
+  pub own_lags : length s.own.lags ≡ s.memory + 1
+  pub are_sums : AreSums s.own s.m s.own.r sums

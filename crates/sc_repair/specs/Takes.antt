@@ -22,6 +22,7 @@ pub record SameNumbers (old new : Repairer) : Type 0 where
   pub m : new.m ≡ old.m
   pub next : new.next ≡ old.next
   pub finished : new.finished ≡ old.finished
+  pub own : new.own ≡ old.own
 
 abbrev pub TakeCounts : Repairer → Repairer → Result (Unit {0}) TakeFault → Type 0
 TakeCounts old new (Ok u) = (new.passed ≡ old.passed + 1) × SameNumbers old new

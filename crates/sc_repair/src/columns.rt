@@ -1,5 +1,5 @@
 //! What is known of the columns of symbols: the bytes of those that came, and what equations say of the others.
-ghost use Rattle.std.specs.Prelude.{◌≡◌, ◌+◌, ◌*◌, ◌<◌, ◌≤◌, ◌++◌, ◌⊎◌, ℕ, List, IfOk, MatchOption, All, true, false, length, drop, replicate, slice_index_or, slice_set};
+ghost use Rattle.std.specs.Prelude.{◌≡◌, ◌+◌, ◌*◌, ◌<◌, ◌≤◌, ◌++◌, ℕ, List, IfOk, MatchOption, All, true, false, length, take, drop, replicate, slice_index_or, slice_set};
 ghost use Rattle.sc_field.specs.Gf256.{gf256_product};
 ghost use Rattle.sc_field.specs.Scale.{scaled_sum};
 ghost use Rattle.sc_matrix.specs.Module.{IsByte};
@@ -8,7 +8,9 @@ ghost use Rattle.sc_matrix.specs.Layout.{cut};
 ghost use Rattle.sc_echelon.specs.Knowledge.{IsSolution, IsBytes, IsValueAt, IsOpenAt, Forgets, zero_bytes};
 ghost use Rattle.sc_repair.specs.Equations.{Gives, Learns, Refuses};
 ghost use Rattle.sc_repair.specs.Columns.{IsColumns, IsFree, IsQuiet, SaysSame, all_known};
+ghost use Rattle.sc_repair.specs.Sum.{placed};
 
+use super::sum::ParitySum;
 use super::window::Window;
 use sc_echelon::{Added, Knowledge};
 use sc_field::{Field, Gf256, Multiplier, element_of, scale_add};
@@ -104,6 +106,40 @@ impl Columns {
             self.free.as_mut_slice(),
             self.bytes.as_slice(),
             self.made.as_slice(),
+            row,
+            sum,
+        )
+    }
+
+    // Adds the equation of a parity symbol whose columns begin at `first`, with room for a row, which is lost. False exactly
+    // where no solution meets it; then nothing else changes.
+    pub(crate) fn add_sum(
+        &mut self,
+        parity: &ParitySum,
+        first: usize,
+        row: &mut [Gf256],
+        right: &[u8],
+    ) -> bool
+        requires room { first + length parity.now.row ≤ self.old.cols }
+        requires parity { parity.now.width ≡ self.old.width }
+        requires row { length row.old ≡ self.old.cols }
+        requires right { length right.now ≡ self.old.width }
+        ensures row { length row.new ≡ length row.old }
+        ensures cols { self.new.cols ≡ self.old.cols }
+        ensures width { self.new.width ≡ self.old.width }
+        ensures learns { result ≡ true → Learns self.old self.new (Gives self.old.width (placed self.old.cols first parity.now.row) right.now) }
+        ensures refuses { result ≡ false → Refuses self.old (Gives self.old.width (placed self.old.cols first parity.now.row) right.now) }
+    {
+        let sum = self.sum.as_mut_slice();
+        sum.copy_from_slice(right);
+        add_sum(
+            &mut self.known,
+            &mut self.told,
+            self.whole.as_slice(),
+            self.free.as_mut_slice(),
+            self.bytes.as_slice(),
+            parity,
+            first,
             row,
             sum,
         )
@@ -275,6 +311,33 @@ fn add_rest(
     ensures refuses { result ≡ false → Refuses (all_known known.old whole.now bytes.now) (Gives known.old.width row.old sum.old) }
 {
     take_out(made, whole, bytes, row, sum);
+    add_open(known, told, whole, free, bytes, row, sum)
+}
+
+// Adds an equation that says nothing of the whole columns.
+fn add_open(
+    known: &mut Knowledge<Gf256>,
+    told: &mut bool,
+    whole: &[bool],
+    free: &mut [bool],
+    bytes: &[u8],
+    row: &[Gf256],
+    sum: &[u8],
+) -> bool
+    requires columns { IsColumns known.old whole.now free.old bytes.now }
+    requires quiet { told.old ≡ false → IsQuiet known.old }
+    requires row { length row.now ≡ known.old.cols }
+    requires sum { length sum.now ≡ known.old.width }
+    requires elements { All IsByte row.now }
+    requires out { (c : ℕ) → slice_index_or whole.now c false ≡ true → slice_index_or row.now c 0 ≡ 0 }
+    ensures quiet { told.new ≡ false → IsQuiet known.new }
+    ensures free { length free.new ≡ length free.old }
+    ensures columns { IsColumns known.new whole.now free.new bytes.now }
+    ensures cols { known.new.cols ≡ known.old.cols }
+    ensures width { known.new.width ≡ known.old.width }
+    ensures learns { result ≡ true → Learns (all_known known.old whole.now bytes.now) (all_known known.new whole.now bytes.now) (Gives known.old.width row.now sum.now) }
+    ensures refuses { result ≡ false → Refuses (all_known known.old whole.now bytes.now) (Gives known.old.width row.now sum.now) }
+{
     if !touch(free, row) {
         return is_zero(sum);
     }
@@ -284,6 +347,52 @@ fn add_rest(
         Added::Known => true,
         Added::Clash => false,
     }
+}
+
+// The bytes of `count` columns from column `first` on.
+fn part_of(bytes: &[u8], first: usize, count: usize, m: usize) -> &[u8]
+    requires { first * m + count * m ≤ length bytes.now }
+    ensures { result.now ≡ take (count * m) (drop (first * m) bytes.now) }
+{
+    &bytes[first * m..first * m + count * m]
+}
+
+// Adds the equation of a parity symbol whose columns begin at `first`, of which `sum` is the right side, with room for a row. Row
+// and sum are lost.
+fn add_sum(
+    known: &mut Knowledge<Gf256>,
+    told: &mut bool,
+    whole: &[bool],
+    free: &mut [bool],
+    bytes: &[u8],
+    parity: &ParitySum,
+    first: usize,
+    row: &mut [Gf256],
+    sum: &mut [u8],
+) -> bool
+    requires columns { IsColumns known.old whole.now free.old bytes.now }
+    requires quiet { told.old ≡ false → IsQuiet known.old }
+    requires room { first + length parity.now.row ≤ known.old.cols }
+    requires parity { parity.now.width ≡ known.old.width }
+    requires row { length row.old ≡ known.old.cols }
+    requires sum { length sum.old ≡ known.old.width }
+    ensures quiet { told.new ≡ false → IsQuiet known.new }
+    ensures row { length row.new ≡ length row.old }
+    ensures sum { length sum.new ≡ length sum.old }
+    ensures free { length free.new ≡ length free.old }
+    ensures columns { IsColumns known.new whole.now free.new bytes.now }
+    ensures cols { known.new.cols ≡ known.old.cols }
+    ensures width { known.new.width ≡ known.old.width }
+    ensures learns { result ≡ true → Learns (all_known known.old whole.now bytes.now) (all_known known.new whole.now bytes.now) (Gives known.old.width (placed known.old.cols first parity.now.row) sum.old) }
+    ensures refuses { result ≡ false → Refuses (all_known known.old whole.now bytes.now) (Gives known.old.width (placed known.old.cols first parity.now.row) sum.old) }
+{
+    let (m, count) = (sum.len(), parity.cols());
+    parity.add_to(sum, part_of(bytes, first, count, m));
+    if parity.is_within(&whole[first..first + count]) {
+        return is_zero(sum);
+    }
+    parity.write_open(row, first, whole);
+    add_open(known, told, whole, free, bytes, row, sum)
 }
 
 // Moves the flags behind the first `count` to the front, and writes as many behind them.

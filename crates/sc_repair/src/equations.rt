@@ -1,18 +1,23 @@
 //! The equations of a taken slot: the symbols of its block, and its parity as sums over the kept blocks.
-ghost use Rattle.std.specs.Prelude.{◌≡◌, ◌+◌, ◌-◌, ◌*◌, ◌<◌, ◌≤◌, ℕ, List, true, false, length, replicate, map, slice_index_or, slice_set, nat_le, if◌then◌else◌};
+ghost use Rattle.std.specs.Prelude.{◌≡◌, ◌+◌, ◌-◌, ◌*◌, ◌<◌, ◌≤◌, ℕ, List, [], IfOk, true, false, length, replicate, map, slice_index_or, slice_set, nat_le, if◌then◌else◌};
 ghost use Rattle.std.specs.List.{range_with_len};
 ghost use Rattle.sc_field.specs.Gf256.{gf256_product};
+ghost use Rattle.sc_matrix.specs.Layout.{cut};
 ghost use Rattle.sc_code.specs.Code.{Code as CodeOf, IsCode, coefficient};
 ghost use Rattle.sc_echelon.specs.Knowledge.{IsSolution};
 ghost use Rattle.sc_slots.specs.Rows.{symbol_row, parity_row};
+ghost use Rattle.sc_repair.specs.Sum.{AreSums, own_sum};
 ghost use Rattle.sc_repair.specs.Equations.{AreOpenFrom, FindsLeft, Gives, HasParities, HasSymbols, IsBlockAt, IsOpenPlace, Learns, LearnsSlot, Refuses, RefusesSlot};
 
 use super::columns::Columns;
+use super::sum::ParitySum;
 use sc_code::ByteCode;
 use sc_field::{Field, Gf256};
+use sc_outside::NoMemory;
+use std::alloc::Global;
 
 // Makes all coefficients zero.
-fn clear_row(row: &mut [Gf256])
+pub(crate) fn clear_row(row: &mut [Gf256])
     ensures { row.new ≡ replicate (length row.old) 0 }
 {
     for c in 0..row.len() {
@@ -136,6 +141,158 @@ pub(crate) fn learn_parity(
         }
     }
     true
+}
+
+// The sum of parity symbol `j` of a code.
+fn sum_of(alloc: Global, code: &ByteCode, m: usize, j: usize) -> Result<ParitySum, NoMemory>
+    requires parity { j < code.now.r }
+    requires small { code.now.k * m ≤ 65503 }
+    ensures { IfOk result (λ s. s ≡ own_sum code.now m j) }
+{
+    let lags = code.memory() + 1;
+    let mut row = vec![in alloc; Gf256::zero(); lags * code.k()]?;
+    write_parity_row(row.as_mut_slice(), code, lags, lags - 1, j);
+    ParitySum::of(alloc, row, m)
+}
+
+// The sum of each parity symbol of a code.
+pub(crate) fn sums_of(alloc: Global, code: &ByteCode, m: usize) -> Result<Vec<ParitySum>, NoMemory>
+    requires { code.now.k * m ≤ 65503 }
+    ensures { IfOk result (λ v. AreSums code.now m code.now.r v.items) }
+{
+    let mut sums = Vec::with_capacity(alloc, code.r())?;
+    for j in 0..code.r() {
+        let sum = sum_of(alloc, code, m, j)?;
+        sums.push(sum)?;
+    }
+    Ok(sums)
+}
+
+// Adds the parity of the slot at a place of `places`, by the sums of the code, where all blocks that it reaches have a place.
+fn learn_sums(
+    known: &mut Columns,
+    row: &mut [Gf256],
+    code: &ByteCode,
+    sums: &[ParitySum],
+    m: usize,
+    places: usize,
+    place: usize,
+    parity: &[u8],
+) -> bool
+    requires place { place < places }
+    requires reaches { length code.now.lags ≤ place + 1 }
+    requires sums { AreSums code.now m code.now.r sums.now }
+    requires cols { known.old.cols ≡ places * code.now.k }
+    requires width { known.old.width ≡ m }
+    requires row { length row.old ≡ places * code.now.k }
+    requires parity { length parity.now ≡ code.now.r * m }
+    ensures cols { known.new.cols ≡ known.old.cols }
+    ensures width { known.new.width ≡ known.old.width }
+    ensures row { length row.new ≡ length row.old }
+    ensures learns { result ≡ true → Learns known.old known.new (HasParities code.now m places place code.now.r parity.now) }
+    ensures refuses { result ≡ false → Refuses known.old (HasParities code.now m places place code.now.r parity.now) }
+{
+    for j in 0..code.r() {
+        if !learn_sum(known, row, code, sums, m, places, place, j, parity) {
+            return false;
+        }
+    }
+    true
+}
+
+// Adds parity symbol `j` of it.
+fn learn_sum(
+    known: &mut Columns,
+    row: &mut [Gf256],
+    code: &ByteCode,
+    sums: &[ParitySum],
+    m: usize,
+    places: usize,
+    place: usize,
+    j: usize,
+    parity: &[u8],
+) -> bool
+    requires place { place < places }
+    requires reaches { length code.now.lags ≤ place + 1 }
+    requires sums { AreSums code.now m code.now.r sums.now }
+    requires symbol { j < code.now.r }
+    requires cols { known.old.cols ≡ places * code.now.k }
+    requires width { known.old.width ≡ m }
+    requires row { length row.old ≡ places * code.now.k }
+    requires parity { length parity.now ≡ code.now.r * m }
+    ensures cols { known.new.cols ≡ known.old.cols }
+    ensures width { known.new.width ≡ known.old.width }
+    ensures row { length row.new ≡ length row.old }
+    ensures learns { result ≡ true → Learns known.old known.new (Gives m (parity_row 0 1 code.now places place j) (slice_index_or (cut code.now.r m parity.now) j [])) }
+    ensures refuses { result ≡ false → Refuses known.old (Gives m (parity_row 0 1 code.now places place j) (slice_index_or (cut code.now.r m parity.now) j [])) }
+{
+    let first = (place - code.memory()) * code.k();
+    known.add_sum(&sums[j], first, row, &parity[j * m..j * m + m])
+}
+
+// Adds the parity of the slot at a place of `places`, by the sums of the code where they can be used.
+fn learn_own_parity(
+    known: &mut Columns,
+    row: &mut [Gf256],
+    code: &ByteCode,
+    sums: &[ParitySum],
+    m: usize,
+    places: usize,
+    place: usize,
+    parity: &[u8],
+) -> bool
+    requires place { place < places }
+    requires sums { AreSums code.now m code.now.r sums.now }
+    requires cols { known.old.cols ≡ places * code.now.k }
+    requires width { known.old.width ≡ m }
+    requires row { length row.old ≡ places * code.now.k }
+    requires parity { length parity.now ≡ code.now.r * m }
+    ensures cols { known.new.cols ≡ known.old.cols }
+    ensures width { known.new.width ≡ known.old.width }
+    ensures row { length row.new ≡ length row.old }
+    ensures learns { result ≡ true → Learns known.old known.new (HasParities code.now m places place code.now.r parity.now) }
+    ensures refuses { result ≡ false → Refuses known.old (HasParities code.now m places place code.now.r parity.now) }
+{
+    if code.memory() <= place {
+        learn_sums(known, row, code, sums, m, places, place, parity)
+    } else {
+        learn_parity(known, row, code, m, places, place, parity)
+    }
+}
+
+// Adds the equations of the slot at a place of `places`, as `learn_slot`, by the sums of the code.
+pub(crate) fn learn_own(
+    known: &mut Columns,
+    row: &mut [Gf256],
+    code: &ByteCode,
+    sums: &[ParitySum],
+    m: usize,
+    places: usize,
+    place: usize,
+    block: &[u8],
+    parity: &[u8],
+) -> bool
+    requires small { places ≤ 105 }
+    requires place { place < places }
+    requires bytes { code.now.k * m ≤ 65503 }
+    requires sums { AreSums code.now m code.now.r sums.now }
+    requires cols { known.old.cols ≡ places * code.now.k }
+    requires width { known.old.width ≡ m }
+    requires row { length row.old ≡ places * code.now.k }
+    requires block { length block.now ≡ code.now.k * m }
+    requires parity { length parity.now ≡ code.now.r * m }
+    ensures cols { known.new.cols ≡ known.old.cols }
+    ensures width { known.new.width ≡ known.old.width }
+    ensures row { length row.new ≡ length row.old }
+    ensures code { IsCode (λ x. x < 256) code.now }
+    ensures learns { result ≡ true → LearnsSlot known.old known.new code.now m places place block.now parity.now }
+    ensures refuses { result ≡ false → RefusesSlot known.old code.now m places place block.now parity.now }
+    ensures solvable { (symbols : List (List ℕ)) × IsSolution gf256_product known.new symbols }
+{
+    let fits = learn_block(known, row, code.k(), m, places, place, block)
+        && learn_own_parity(known, row, code, sums, m, places, place, parity);
+    known.known();
+    fits
 }
 
 // Writes the block at a place. False exactly where two solutions differ in a symbol of it.

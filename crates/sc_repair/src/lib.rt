@@ -7,6 +7,7 @@ mod laws;
 mod put;
 mod repair;
 mod repairer;
+mod sum;
 mod window;
 
 pub use laws::{protected_captures_come_back, repairing_is_a_job};

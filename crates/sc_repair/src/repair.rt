@@ -177,7 +177,7 @@ fn take_slot<P: Port>(
         None => {}
         Some(bad) => return Ok(Err(RepairEnd::BadBlock(bad))),
     }
-    match repairer.take(&file.code, slot) {
+    match repairer.take_own(&file.code, slot) {
         Ok(()) => {}
         Err(_) => return Ok(Err(RepairEnd::Clash(slot.number))),
     }
@@ -232,7 +232,7 @@ fn resume(
 {
     match kept {
         Some(repairer) => Ok(repairer),
-        None => Repairer::start(alloc, &file.code, file.channel.t(), m),
+        None => Repairer::start_by(alloc, &file.code, file.channel.t(), m),
     }
 }
 

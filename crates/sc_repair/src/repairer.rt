@@ -16,7 +16,8 @@ ghost use Rattle.sc_repair.specs.Takes.{TakeCounts, Takes};
 ghost use Rattle.sc_repair.specs.Fit.{FitGives, end_so_far};
 
 use super::columns::Columns;
-use super::equations::{find_left, learn_slot, read_block};
+use super::equations::{find_left, learn_own, learn_slot, read_block, sums_of};
+use super::sum::ParitySum;
 use sc_code::ByteCode;
 use sc_field::{Field, Gf256};
 use sc_outside::NoMemory;
@@ -98,6 +99,9 @@ pub struct Repairer {
     end: u32,
     finished: bool,
     known: Columns,
+    // The code of `start`, and the sum of each of its parity symbols.
+    own: ByteCode,
+    sums: Vec<ParitySum>,
     // Room for the coefficients of one equation, and for one block.
     row: Vec<Gf256>,
     block: Vec<u8>,
@@ -110,9 +114,9 @@ impl Model for Repairer {
 
     ghost coded = { repairer_code };
 
-    ghost view = { λ s. kept_by s.k s.r s.memory s.deadline s.m s.front s.passed s.next s.past s.end s.claimed s.finished s.known s.block.items };
+    ghost view = { λ s. kept_by s.k s.r s.memory s.deadline s.m s.front s.passed s.next s.past s.end s.claimed s.finished s.known s.block.items s.own };
 
-    ghost invariant = { λ s. IsRoomy (kept_by s.k s.r s.memory s.deadline s.m s.front s.passed s.next s.past s.end s.claimed s.finished s.known s.block.items) s.places s.row.items };
+    ghost invariant = { λ s. IsRoomy (kept_by s.k s.r s.memory s.deadline s.m s.front s.passed s.next s.past s.end s.claimed s.finished s.known s.block.items s.own) s.places s.row.items s.sums.items };
 }
 
 impl Repairer {
@@ -132,11 +136,31 @@ impl Repairer {
         ensures code { IfOk result (λ s. (s.k ≡ code.now.k) × (s.r ≡ code.now.r) × (s.memory + 1 ≡ length code.now.lags)) }
         ensures numbers { IfOk result (λ s. (s.deadline ≡ deadline) × (s.m ≡ m) × (s.passed ≡ 0) × (s.next ≡ 0) × (s.finished ≡ false)) }
     {
+        Repairer::start_by(alloc, code, deadline, m)
+    }
+
+    // The same. It keeps the code.
+    pub(crate) fn start_by(
+        alloc: Global,
+        code: &ByteCode,
+        deadline: u32,
+        m: u16,
+    ) -> Result<Repairer, NoMemory>
+        requires deadline { deadline ≤ 40 }
+        requires some { 1 ≤ m }
+        requires small { code.now.k * m ≤ 65503 }
+        ensures stands { IfOk result (λ s. Stands s []) }
+        ensures code { IfOk result (λ s. (s.k ≡ code.now.k) × (s.r ≡ code.now.r) × (s.memory + 1 ≡ length code.now.lags)) }
+        ensures numbers { IfOk result (λ s. (s.deadline ≡ deadline) × (s.m ≡ m) × (s.passed ≡ 0) × (s.next ≡ 0) × (s.finished ≡ false)) }
+        ensures own { IfOk result (λ s. s.own ≡ code.now) }
+    {
         let k = code.k();
         let memory = code.memory();
         let places = memory.max(deadline as usize) + 1;
         let width = usize::from(m);
         let known = Columns::start(alloc, places * k, width)?;
+        let own = code.copy(alloc)?;
+        let sums = sums_of(alloc, code, width)?;
         let row = vec![in alloc; Gf256::zero(); places * k]?;
         let block = vec![in alloc; 0; k * width]?;
         Ok(Repairer {
@@ -154,6 +178,8 @@ impl Repairer {
             end: 0,
             finished: false,
             known,
+            own,
+            sums,
             row,
             block,
         })
@@ -258,6 +284,40 @@ impl Repairer {
         fits
     }
 
+    // The same, by the code of `start`.
+    fn learn_own(&mut self, code: &ByteCode, block: &[u8], parity: &[u8]) -> bool
+        requires own { self.old.own ≡ code.now }
+        requires room { self.old.passed < self.old.front + places_for self.old.memory self.old.deadline }
+        requires symbols { code.now.k ≡ self.old.k }
+        requires parities { code.now.r ≡ self.old.r }
+        requires block { length block.now ≡ self.old.k * self.old.m }
+        requires parity { length parity.now ≡ self.old.r * self.old.m }
+        ensures code { IsCode (λ x. x < 256) code.now }
+        ensures block_bytes { All IsByte block.now }
+        ensures parity_bytes { All IsByte parity.now }
+        ensures taken { result ≡ true → LearnsSlot self.old.known self.new.known code.now self.old.m (places_for self.old.memory self.old.deadline) (self.old.passed - self.old.front) block.now parity.now }
+        ensures refused { result ≡ false → RefusesSlot self.old.known code.now self.old.m (places_for self.old.memory self.old.deadline) (self.old.passed - self.old.front) block.now parity.now }
+        ensures solvable { (symbols : List (List ℕ)) × IsSolution gf256_product self.new.known symbols }
+        ensures same { self.new ≡ record self.old { known = self.new.known } }
+        ensures sound { IsSound self.new }
+    {
+        let (k, m) = (code.k(), usize::from(self.m));
+        let place = (self.passed - self.front) as usize;
+        let row = self.row.as_mut_slice();
+        let fits = learn_own(
+            &mut self.known,
+            row,
+            code,
+            self.sums.as_slice(),
+            m,
+            self.places,
+            place,
+            block,
+            parity,
+        );
+        fits
+    }
+
     // Notes that slot `number` was taken, with this end byte.
     fn note_taken(&mut self, number: u32, end: u8)
         requires number { number ≡ self.old.passed }
@@ -298,6 +358,32 @@ impl Repairer {
         ensures counts { TakeCounts self.old self.new result }
     {
         self.take_with(code, slot)
+    }
+
+    // The same, where the code is known to be that of `start`. Its coefficients were prepared then.
+    pub(crate) fn take_own(&mut self, code: &ByteCode, slot: &Slot<'_>) -> Result<(), TakeFault>
+        requires own { self.old.own ≡ code.now }
+        requires goes_on { self.old.finished ≡ false }
+        requires in_time { self.old.passed ≤ self.old.next + self.old.deadline }
+        requires limit { self.old.passed < MAX_SLOTS }
+        requires number { slot.now.number ≡ self.old.passed }
+        requires end { slot.now.end ≤ slot.now.number + 1 }
+        requires fits { FitsEnd self.old.is_claimed self.old.end slot.now.number slot.now.end }
+        requires width { slot.now.m ≡ self.old.m }
+        requires symbols { code.now.k ≡ self.old.k }
+        requires parities { code.now.r ≡ self.old.r }
+        requires lags { length code.now.lags ≡ self.old.memory + 1 }
+        requires block { length slot.now.block.now ≡ self.old.k * self.old.m }
+        requires parity { length slot.now.parity.now ≡ self.old.r * self.old.m }
+        ensures takes { (taken : List (Taken ℕ)) → Stands self.old taken → Takes self.old self.new taken (taken_slot code.now (slot_in slot.now)) result }
+        ensures counts { TakeCounts self.old self.new result }
+    {
+        self.give_up();
+        if !self.learn_own(code, slot.block, slot.parity) {
+            return Err(TakeFault::Clash(slot.number));
+        }
+        self.note_taken(slot.number, slot.end);
+        Ok(())
     }
 
     /// Takes the slot with the number `passed`, whose parity is by this code, which has the `k` and `r` of the code of

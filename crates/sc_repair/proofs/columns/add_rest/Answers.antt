@@ -1,84 +1,29 @@
-use Rattle.std.proofs.Common.{◌≡◌, ℕ, length, sym, ap, ◌∙◌, subst}
-use Rattle.sc_echelon.specs.Knowledge.{Knowledge, zero_bytes}
-use Rattle.sc_echelon.specs.declared.knowledge.Added.TheVariants.{New, Known}
-use Rattle.sc_repair.specs.Equations.{Gives, Learns}
+use Rattle.sc_repair.specs.Equations.{Gives}
 use Rattle.sc_repair.specs.Columns.{all_known}
-use Rattle.sc_repair.proofs.ColumnSteps.{says_here, zero_says, free_more, columns_more, learns_new, learns_known, refuses_clash}
+use Rattle.sc_repair.proofs.ColumnSteps.{says_here}
+use Rattle.sc_repair.proofs.SumSteps.{learns_alike, refuses_alike}
 use Rattle.sc_repair.proofs.columns.add_rest.Goals as goal
 
-pub returns-then-not-touch-clause-learns : goal.returns-then-not-touch-clause-learns
-returns-then-not-touch-clause-learns c yes' symbols =
+pub returns-clause-learns : goal.returns-clause-learns
+returns-clause-learns c yes' =
     let known = c.args.known.now in
-    let h = c.requires.columns in
+    let whole = c.args.whole.now in
+    let bytes = c.args.bytes.now in
     let row = c.args.row.now in
     let sum = c.args.sum.now in
     let row' = c.take_out.new.row in
     let sum' = c.take_out.new.sum in
-    let says = says_here known c.args.whole.now c.args.free.now c.args.bytes.now row sum row' sum' h c.requires.row c.requires.sum c.take_out.ensures.elements c.take_out.ensures.same in
-    let w : length sum' ≡ known.width = c.take_out.ensures.sum ∙ c.requires.sum in
-    let none : zero_bytes known.width ≡ sum' = sym (c.is_zero.ensures.yes yes' ∙ ap zero_bytes w) in (
-      λ s. (s, (says symbols s).1 ((zero_says known.width row' sum' symbols c.take_out.ensures.rest s.values.entries (c.touch.ensures.none c.if-not-touch.true)).1 none)),
-      λ s. s.0,
-    )
+    learns_alike (all_known known whole bytes) (all_known c.add_open.new.known whole bytes) (Gives known.width row sum) (Gives known.width row' sum')
+    (says_here known whole c.args.free.now bytes row sum row' sum' c.requires.columns c.requires.row c.requires.sum c.take_out.ensures.elements c.take_out.ensures.same) (c.add_open.ensures.learns yes')
 
-pub returns-then-not-touch-clause-refuses : goal.returns-then-not-touch-clause-refuses
-returns-then-not-touch-clause-refuses c no' symbols s g =
+pub returns-clause-refuses : goal.returns-clause-refuses
+returns-clause-refuses c no' =
     let known = c.args.known.now in
-    let h = c.requires.columns in
+    let whole = c.args.whole.now in
+    let bytes = c.args.bytes.now in
     let row = c.args.row.now in
     let sum = c.args.sum.now in
     let row' = c.take_out.new.row in
     let sum' = c.take_out.new.sum in
-    let says = says_here known c.args.whole.now c.args.free.now c.args.bytes.now row sum row' sum' h c.requires.row c.requires.sum c.take_out.ensures.elements c.take_out.ensures.same in
-    let w : length sum' ≡ known.width = c.take_out.ensures.sum ∙ c.requires.sum in
-    let none : zero_bytes known.width ≡ sum' = (zero_says known.width row' sum' symbols c.take_out.ensures.rest s.values.entries (c.touch.ensures.none c.if-not-touch.true)).0 ((says symbols s).0 g) in
-    c.is_zero.ensures.no no' (sym none ∙ ap zero_bytes (sym w))
-
-pub returns-in-New-clause-columns : goal.returns-in-New-clause-columns
-returns-in-New-clause-columns c =
-    let known = c.args.known.now in
-    let h = c.requires.columns in
-    let row' = c.take_out.new.row in
-    let sum' = c.take_out.new.sum in
-    let new = c.add_row.new.self in
-    columns_more known new c.args.whole.now c.args.free.now c.touch.new.free c.args.bytes.now h c.add_row.ensures.cols c.add_row.ensures.width c.touch.ensures.count
-    (λ i e. c.touch.ensures.kept i (h.within i e) (c.take_out.ensures.out i e))
-    (free_more known new c.args.free.now c.touch.new.free row' sum' h.is_free c.add_row.ensures.cols c.add_row.ensures.width c.take_out.ensures.rest (c.take_out.ensures.row ∙ c.requires.row) c.touch.ensures.free (c.add_row.ensures.adds c.in-New.is))
-
-pub returns-in-New-clause-learns : goal.returns-in-New-clause-learns
-returns-in-New-clause-learns c e =
-    let known = c.args.known.now in
-    let h = c.requires.columns in
-    let row = c.args.row.now in
-    let sum = c.args.sum.now in
-    let row' = c.take_out.new.row in
-    let sum' = c.take_out.new.sum in
-    learns_new known c.add_row.new.self c.args.whole.now c.args.free.now c.args.bytes.now row sum row' sum' h c.add_row.ensures.cols c.add_row.ensures.width
-    (says_here known c.args.whole.now c.args.free.now c.args.bytes.now row sum row' sum' h c.requires.row c.requires.sum c.take_out.ensures.elements c.take_out.ensures.same)
-    (c.add_row.ensures.adds c.in-New.is)
-
-pub returns-in-Known-clause-learns : goal.returns-in-Known-clause-learns
-returns-in-Known-clause-learns c e =
-    let known = c.args.known.now in
-    let h = c.requires.columns in
-    let row = c.args.row.now in
-    let sum = c.args.sum.now in
-    let row' = c.take_out.new.row in
-    let sum' = c.take_out.new.sum in
-    let same : c.add_row.new.self ≡ known = c.add_row.ensures.stays (λ x. absurd (let other : Known ≡ New = sym c.in-Known.is ∙ x in cc)) in
-    subst (λ (k : Knowledge ℕ). Learns (all_known known c.args.whole.now c.args.bytes.now) (all_known k c.args.whole.now c.args.bytes.now) (Gives known.width row sum)) (sym same)
-    (learns_known known c.args.whole.now c.args.free.now c.args.bytes.now row sum row' sum' h
-    (says_here known c.args.whole.now c.args.free.now c.args.bytes.now row sum row' sum' h c.requires.row c.requires.sum c.take_out.ensures.elements c.take_out.ensures.same)
-    (c.add_row.ensures.known.0 c.in-Known.is))
-
-pub returns-in-Clash-clause-refuses : goal.returns-in-Clash-clause-refuses
-returns-in-Clash-clause-refuses c e =
-    let known = c.args.known.now in
-    let h = c.requires.columns in
-    let row = c.args.row.now in
-    let sum = c.args.sum.now in
-    let row' = c.take_out.new.row in
-    let sum' = c.take_out.new.sum in
-    refuses_clash known c.args.whole.now c.args.free.now c.args.bytes.now row sum row' sum' h
-    (says_here known c.args.whole.now c.args.free.now c.args.bytes.now row sum row' sum' h c.requires.row c.requires.sum c.take_out.ensures.elements c.take_out.ensures.same)
-    (c.add_row.ensures.clash.0 c.in-Clash.is)
+    refuses_alike (all_known known whole bytes) (Gives known.width row sum) (Gives known.width row' sum')
+    (says_here known whole c.args.free.now bytes row sum row' sum' c.requires.columns c.requires.row c.requires.sum c.take_out.ensures.elements c.take_out.ensures.same) (c.add_open.ensures.refuses no')

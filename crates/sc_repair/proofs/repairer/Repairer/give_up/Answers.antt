@@ -7,7 +7,7 @@ use Rattle.sc_repair.proofs.repairer.Repairer.give_up.Goals as goal
 pub returns-clause-stands : goal.returns-clause-stands
 returns-clause-stands c taken h =
     let e = c.self.inside in
-    let s = kept_by e.k e.r e.memory e.deadline e.m e.front e.passed e.next e.past e.end e.claimed e.finished e.known e.block.items in
+    let s = kept_by e.k e.r e.memory e.deadline e.m e.front e.passed e.next e.past e.end e.claimed e.finished e.known e.block.items e.own in
     let sound = c.self.invariant.sound in
     let view : s ≡ c.args.self.now = c.self.view_is in
     let a = sound.front_put in

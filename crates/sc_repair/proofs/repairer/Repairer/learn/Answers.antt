@@ -6,7 +6,7 @@ use Rattle.sc_repair.proofs.repairer.Repairer.learn.Goals as goal
 pub returns-clause-refused : goal.returns-clause-refused
 returns-clause-refused c refused =
     let e = c.self.inside in
-    let s = kept_by e.k e.r e.memory e.deadline e.m e.front e.passed e.next e.past e.end e.claimed e.finished e.known e.block.items in
+    let s = kept_by e.k e.r e.memory e.deadline e.m e.front e.passed e.next e.past e.end e.claimed e.finished e.known e.block.items e.own in
     let view : s ≡ c.args.self.now = c.self.view_is in
     let code = c.args.phase.now in
     let block = c.args.block.now in

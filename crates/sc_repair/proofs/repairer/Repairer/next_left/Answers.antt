@@ -12,7 +12,7 @@ use Rattle.sc_repair.proofs.repairer.Repairer.next_left.Goals.{then-self, else-s
 pub returns-in-None-clause-left : goal.returns-in-None-clause-left
 returns-in-None-clause-left c taken h =
     let e = c.self.inside in
-    let s = kept_by e.k e.r e.memory e.deadline e.m e.front e.passed e.next e.past e.end e.claimed e.finished e.known e.block.items in
+    let s = kept_by e.k e.r e.memory e.deadline e.m e.front e.passed e.next e.past e.end e.claimed e.finished e.known e.block.items e.own in
     let view : s ≡ c.args.self.now = c.self.view_is in
     let hs = subst (λ (x : Repairer). Stands x taken) (sym view) h in
     let new = c.find_left-found.new.block in
@@ -27,13 +27,13 @@ returns-in-None-clause-left c taken h =
 pub returns-in-None-clause-stands : goal.returns-in-None-clause-stands
 returns-in-None-clause-stands c taken h =
     let e = c.self.inside in
-    let s = kept_by e.k e.r e.memory e.deadline e.m e.front e.passed e.next e.past e.end e.claimed e.finished e.known e.block.items in
+    let s = kept_by e.k e.r e.memory e.deadline e.m e.front e.passed e.next e.past e.end e.claimed e.finished e.known e.block.items e.own in
     Stands-block s _ taken (subst (λ (x : Repairer). Stands x taken) (sym c.self.view_is) h)
 
 pub returns-after-whole-clause-left : goal.returns-after-whole-clause-left
 returns-after-whole-clause-left c taken h =
     let e = c.self.inside in
-    let s = kept_by e.k e.r e.memory e.deadline e.m e.front e.passed e.next e.past e.end e.claimed e.finished e.known e.block.items in
+    let s = kept_by e.k e.r e.memory e.deadline e.m e.front e.passed e.next e.past e.end e.claimed e.finished e.known e.block.items e.own in
     let view : s ≡ c.args.self.now = c.self.view_is in
     let hs = subst (λ (x : Repairer). Stands x taken) (sym view) h in
     let new = c.find_left-found.new.block in
@@ -54,7 +54,7 @@ returns-after-whole-clause-left c taken h =
 pub returns-after-whole-clause-stands : goal.returns-after-whole-clause-stands
 returns-after-whole-clause-stands c taken h =
     let e = c.self.inside in
-    let s = kept_by e.k e.r e.memory e.deadline e.m e.front e.passed e.next e.past e.end e.claimed e.finished e.known e.block.items in
+    let s = kept_by e.k e.r e.memory e.deadline e.m e.front e.passed e.next e.past e.end e.claimed e.finished e.known e.block.items e.own in
     let view : s ≡ c.args.self.now = c.self.view_is in
     let hs = subst (λ (x : Repairer). Stands x taken) (sym view) h in
     let ended = ap (λ (x : Repairer). x.finished) view ∙ c.requires in

@@ -12,7 +12,7 @@ use Rattle.sc_repair.proofs.repairer.Repairer.next_settled.Goals as goal
 pub returns-then-read_block-clause-next : goal.returns-then-read_block-clause-next
 returns-then-read_block-clause-next c taken h =
     let e = c.self.inside in
-    let s = kept_by e.k e.r e.memory e.deadline e.m e.front e.passed e.next e.past e.end e.claimed e.finished e.known e.block.items in
+    let s = kept_by e.k e.r e.memory e.deadline e.m e.front e.passed e.next e.past e.end e.claimed e.finished e.known e.block.items e.own in
     let view : s ≡ c.args.self.now = c.self.view_is in
     let sound = c.self.invariant.sound in
     let in_passed = sound.in_passed in
@@ -28,7 +28,7 @@ returns-then-read_block-clause-next c taken h =
 pub returns-then-read_block-clause-stands : goal.returns-then-read_block-clause-stands
 returns-then-read_block-clause-stands c taken h =
     let e = c.self.inside in
-    let s = kept_by e.k e.r e.memory e.deadline e.m e.front e.passed e.next e.past e.end e.claimed e.finished e.known e.block.items in
+    let s = kept_by e.k e.r e.memory e.deadline e.m e.front e.passed e.next e.past e.end e.claimed e.finished e.known e.block.items e.own in
     let view : s ≡ c.args.self.now = c.self.view_is in
     let sound = c.self.invariant.sound in
     let in_passed = sound.in_passed in
@@ -42,7 +42,7 @@ returns-then-read_block-clause-stands c taken h =
 pub returns-then-self-slot-clause-next : goal.returns-then-self-slot-clause-next
 returns-then-self-slot-clause-next c taken h =
     let e = c.self.inside in
-    let s = kept_by e.k e.r e.memory e.deadline e.m e.front e.passed e.next e.past e.end e.claimed e.finished e.known e.block.items in
+    let s = kept_by e.k e.r e.memory e.deadline e.m e.front e.passed e.next e.past e.end e.claimed e.finished e.known e.block.items e.own in
     let view : s ≡ c.args.self.now = c.self.view_is in
     let sound = c.self.invariant.sound in
     let in_passed = sound.in_passed in
@@ -54,13 +54,13 @@ returns-then-self-slot-clause-next c taken h =
 pub returns-then-self-slot-clause-stands : goal.returns-then-self-slot-clause-stands
 returns-then-self-slot-clause-stands c taken h =
     let e = c.self.inside in
-    let s = kept_by e.k e.r e.memory e.deadline e.m e.front e.passed e.next e.past e.end e.claimed e.finished e.known e.block.items in
+    let s = kept_by e.k e.r e.memory e.deadline e.m e.front e.passed e.next e.past e.end e.claimed e.finished e.known e.block.items e.own in
     Stands-block s _ taken (subst (λ (x : Repairer). Stands x taken) (sym c.self.view_is) h)
 
 pub returns-clause-next : goal.returns-clause-next
 returns-clause-next c taken h =
     let e = c.self.inside in
-    let s = kept_by e.k e.r e.memory e.deadline e.m e.front e.passed e.next e.past e.end e.claimed e.finished e.known e.block.items in
+    let s = kept_by e.k e.r e.memory e.deadline e.m e.front e.passed e.next e.past e.end e.claimed e.finished e.known e.block.items e.own in
     let view : s ≡ c.args.self.now = c.self.view_is in
     let sound = c.self.invariant.sound in
     let in_passed = sound.in_passed in
@@ -72,7 +72,7 @@ returns-clause-next c taken h =
 pub returns-clause-stands : goal.returns-clause-stands
 returns-clause-stands c taken h =
     let e = c.self.inside in
-    let s = kept_by e.k e.r e.memory e.deadline e.m e.front e.passed e.next e.past e.end e.claimed e.finished e.known e.block.items in
+    let s = kept_by e.k e.r e.memory e.deadline e.m e.front e.passed e.next e.past e.end e.claimed e.finished e.known e.block.items e.own in
     let view : s ≡ c.args.self.now = c.self.view_is in
     let sound = c.self.invariant.sound in
     let in_passed = sound.in_passed in

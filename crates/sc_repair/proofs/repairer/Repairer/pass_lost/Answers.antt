@@ -7,7 +7,7 @@ use Rattle.sc_repair.proofs.repairer.Repairer.pass_lost.Goals as goal
 pub returns-clause-stands : goal.returns-clause-stands
 returns-clause-stands c taken h =
     let e = c.self.inside in
-    let s = kept_by e.k e.r e.memory e.deadline e.m e.front e.passed e.next e.past e.end e.claimed e.finished e.known e.block.items in
+    let s = kept_by e.k e.r e.memory e.deadline e.m e.front e.passed e.next e.past e.end e.claimed e.finished e.known e.block.items e.own in
     let view : s ≡ c.give_up.new.self = c.self.view_is in
     let same = c.give_up.ensures.same in
     let passed = ap (λ (x : Repairer). x.passed) (view ∙ same) in

@@ -1,6 +1,5 @@
-use Rattle.std.proofs.Common.{◌≡◌, ℕ, ◌+◌, ◌≤◌, List, ◌++◌, length, take, drop, replicate, refl, sym, ap, ◌∙◌, subst, arith}
+use Rattle.std.proofs.Common.{ℕ, ◌+◌, ◌≤◌, List, length, take, drop, refl, sym, ap, ◌∙◌, subst, arith}
 use borrow.Rule.Slice.PartMut.{put_mid}
-use Rattle.std.specs.Vec.{with_items}
 use Rattle.sc_matrix.proofs.LayoutLaws.{items_written}
 use Rattle.sc_repair.specs.Window.{IsWindow}
 use Rattle.sc_repair.proofs.WindowSteps.{written, written_is, window_long}

@@ -4,7 +4,7 @@ use Rattle.sc_matrix.specs.Vector.{IsVector}
 use Rattle.sc_echelon.specs.Knowledge.{IsSolution, IsBytes}
 use Rattle.sc_repair.proofs.CallSteps.{Stands-start}
 use Rattle.sc_repair.proofs.EquationSteps.{few_bytes}
-use Rattle.sc_repair.proofs.repairer.Repairer.start.Goals as goal
+use Rattle.sc_repair.proofs.repairer.Repairer.start_by.Goals as goal
 
 pub start-requires-clause-small : goal.start-requires-clause-small
 start-requires-clause-small c =
@@ -23,6 +23,6 @@ returns-clause-stands c =
     let most = c.max-places.ensures in
     let cols : (c.max-places.result + 1) * c.k-k.result ≡ (max c.memory-memory.result c.args.deadline + 1) * c.k-k.result = ap (λ (x : ℕ). (x + 1) * c.k-k.result) most in
     let width : c.from-width.result ≡ c.args.m = c.from-width.ensures in
-    Stands-start c.k-k.result c.r.result c.memory-memory.result c.args.deadline c.args.m c.in_ok-known.known c.in_ok-block.block.items
+    Stands-start c.k-k.result c.r.result c.memory-memory.result c.args.deadline c.args.m c.in_ok-known.known c.in_ok-block.block.items c.in_ok-own.own
     (subst (λ (n : ℕ). (symbols : List (List ℕ)) → IsVector (IsBytes c.args.m) n symbols → IsSolution gf256_product c.in_ok-known.known symbols) cols
     (subst (λ (m : ℕ). (symbols : List (List ℕ)) → IsVector (IsBytes m) ((c.max-places.result + 1) * c.k-k.result) symbols → IsSolution gf256_product c.in_ok-known.known symbols) width c.in_ok-known.ensures.any))
