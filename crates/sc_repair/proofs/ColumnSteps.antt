@@ -4,7 +4,7 @@ use Rattle.std.specs.List.{range_with_len}
 use Rattle.std.specs.Int.Bits.{xor_assoc, xor_self, xor_zero_r}
 use Rattle.std.proofs.lemmas.Bool.{cases_lt, cases_eq, cond-true, cond-false}
 use Rattle.std.proofs.Math.Seq.{drop-append-add}
-use Rattle.std.proofs.lemmas.List.{take-replicate, drop-replicate, length-replicate, length-map, length-append, length-take-le, length-drop, get_or-replicate, get_or-take, get_or-drop, get_or_past, get_or_default, get_or_append_left, get_or-append_right, get_or-append-add, get_or-set_same, get_or-set_other, take-append-drop, take-append-le, drop-append-le, drop-drop, ext_get_or}
+use Rattle.std.proofs.lemmas.List.{take-replicate, drop-replicate, length-replicate, length-map, length-append, length-take-le, length-drop, get_or-replicate, get_or-take, get_or-drop, get_or_past, get_or_default, get_or_append_left, get_or-append_right, get_or-append-add, get_or-set_same, get_or-set_other, take_all, nil_from_length, take-append-drop, take-append-le, drop-append-le, drop-drop, ext_get_or}
 use Rattle.std.proofs.lemmas.List.Elements.{All-append, All-replicate, All-set, All-from_get_or, All-get_or, All-head, All-tail, All-nil, All-take, All-drop}
 use Rattle.std.proofs.lemmas.List.FromFn.{length-map-range_with_len, get_or-map-range_with_len}
 use borrow.Rule.Slice.PartMut.{put_mid}
@@ -657,3 +657,18 @@ forgets_quiet known count some room quiet vs values =
 -- nothing is known at the start
 pub quiet_start : (n w : ℕ) → IsQuiet (nothing_known n w)
 quiet_start n w vs values = record { values = values; solves = All-nil _ }
+
+-- they say as much where none is forgotten
+pub forgets_none : (known : Knowledge ℕ) → Forgets gf256_product 0 known known
+forgets_none known vs values =
+    let all : take (known.cols - 0) vs ≡ vs = take_all (known.cols - 0) vs (let l = values.width in omega arith) in (
+      λ s. ([], record { width = refl; entries = All-nil (IsBytes known.width) }, subst (IsSolution gf256_product known) (sym all) s),
+      λ s.
+          let none : s.0 ≡ [] = nil_from_length s.0 s.1.width in
+          subst (IsSolution gf256_product known) (ap (λ (us : List (List ℕ)). us ++ take (known.cols - 0) vs) none ∙ all) s.2,
+    )
+
+-- fewer columns are free
+pub columns_less : (known : Knowledge ℕ) (whole free free' : List Bool) (bytes : List ℕ) → IsColumns known whole free bytes → length free' ≡ length free
+    → ((c : ℕ) → get_or whole c false ≡ true → get_or free' c false ≡ true) → ((c : ℕ) → get_or free' c false ≡ true → get_or free c false ≡ true) → IsColumns known whole free' bytes
+columns_less known whole free free' bytes h count within less = columns_more known known whole free free' bytes h refl refl count within (free_less known free free' h.is_free less)

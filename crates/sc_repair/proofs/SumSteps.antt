@@ -27,7 +27,7 @@ use Rattle.sc_echelon.proofs.DotLaws.{dot_value, dot_none, dot_same, dot-add}
 use Rattle.sc_repair.specs.Equations.{Gives, Learns, Refuses}
 use Rattle.sc_repair.specs.Columns.{HasStored, IsColumns, all_known}
 use Rattle.sc_repair.specs.Sum.{placed, open_at, AreColumns, AreTerms, IsOpening}
-use Rattle.sc_repair.proofs.ColumnSteps.{all_known-iff, xor_back, flag_within, cases, zero_says}
+use Rattle.sc_repair.proofs.ColumnSteps.{all_known-iff, xor_back, cases, zero_says}
 use Rattle.sc_repair.proofs.EquationSteps.{row_of_entries, fewer_columns}
 
 bytes_are : (w : ℕ) → IsModule IsByte 0 1 bit_xor gf256_product (IsBytes w) (zero_bytes w) xor_bytes (act_bytes gf256_product)
@@ -266,6 +266,30 @@ module _ (n first : ℕ) (row : List ℕ) (room : first + length row ≤ n) wher
           ]
     ]
 
+  -- where the columns that are left are turned off, nothing is left at the others
+  pub touched_all : (flags : List Bool) (cols : List ℕ) (are : AreColumns row (length row) cols) (free : List Bool)
+      → ((x : ℕ) → x < length cols → get_or flags (first + get_or cols x 0) false ≡ false → get_or free (first + get_or cols x 0) false ≡ false)
+      → (c : ℕ) → get_or free c false ≡ true → open_at n first row flags c ≡ 0
+  touched_all flags cols are free off c on = elim (cases (get_or flags c false)) [
+    | inl e ↦ cond-true (get_or flags c false) 0 (get_or (placed n first row) c 0) e
+    | inr e ↦
+        cond-false (get_or flags c false) 0 (get_or (placed n first row) c 0) e ∙ elim (cases_lt c first) [
+          | inl before ↦ placed_before c before
+          | inr from ↦
+              elim (cases_lt c (first + length row)) [
+                | inr past ↦ placed_past c past
+                | inl here ↦
+                    elim (cases_eq (get_or row (c - first) 0) 0) [
+                      | inl none ↦ placed_here c from here ∙ none
+                      | inr some ↦
+                          let k = are.all (c - first) (omega arith) some in
+                          let at : first + get_or cols k.0 0 ≡ c = (let e = k.2 in omega arith) in
+                          absurd (let other : true ≡ false = sym on ∙ ap (λ (y : ℕ). get_or free y false) (sym at) ∙ off k.0 k.1 (ap (λ (y : ℕ). get_or flags y false) at ∙ e) in cc)
+                    ]
+              ]
+        ]
+  ]
+
   -- where all columns with a coefficient are left out, nothing is left
   pub open_none : (flags : List Bool) → ((c : ℕ) → c < length row → get_or flags (first + c) false ≡ false → get_or row c 0 ≡ 0) → (c : ℕ) → open_at n first row flags c ≡ 0
   open_none flags none c = elim (cases (get_or flags c false)) [
@@ -437,9 +461,6 @@ module _ (known : Knowledge ℕ) (whole free : List Bool) (bytes row right : Lis
         | inl e ↦ (let z = left i low ∙ cond-true (get_or whole i false) 0 (get_or (placed known.cols first row) i 0) e in omega arith)
         | inr e ↦ (let z = left i low ∙ cond-false (get_or whole i false) 0 (get_or (placed known.cols first row) i 0) e in let b = All-get_or IsByte (placed known.cols first row) i 0 (omega arith) ap' in omega arith)
       ])
-
-  pub open_out : (row' : List ℕ) → length row' ≡ known.cols → ((c : ℕ) → c < known.cols → get_or row' c 0 ≡ open_at known.cols first row whole c) → (c : ℕ) → get_or whole c false ≡ true → get_or row' c 0 ≡ 0
-  open_out row' count left c e = (let lt = flag_within whole c e in let l = h.whole_count in left c (omega arith) ∙ cond-true (get_or whole c false) 0 (get_or (placed known.cols first row) c 0) e)
 
   -- where all columns with a coefficient are whole
   pub within_says : (sum : List ℕ) → ((c : ℕ) → c < length row → get_or whole (first + c) false ≡ false → get_or row c 0 ≡ 0)

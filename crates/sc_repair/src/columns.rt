@@ -341,6 +341,32 @@ fn add_open(
     if !touch(free, row) {
         return is_zero(sum);
     }
+    add_touched(known, told, whole, free, bytes, row, sum)
+}
+
+// Adds an equation that says nothing of the free columns.
+fn add_touched(
+    known: &mut Knowledge<Gf256>,
+    told: &mut bool,
+    whole: &[bool],
+    free: &[bool],
+    bytes: &[u8],
+    row: &[Gf256],
+    sum: &[u8],
+) -> bool
+    requires columns { IsColumns known.old whole.now free.now bytes.now }
+    requires quiet { told.old ≡ false → IsQuiet known.old }
+    requires row { length row.now ≡ known.old.cols }
+    requires sum { length sum.now ≡ known.old.width }
+    requires elements { All IsByte row.now }
+    requires touched { (c : ℕ) → slice_index_or free.now c false ≡ true → slice_index_or row.now c 0 ≡ 0 }
+    ensures quiet { told.new ≡ false → IsQuiet known.new }
+    ensures columns { IsColumns known.new whole.now free.now bytes.now }
+    ensures cols { known.new.cols ≡ known.old.cols }
+    ensures width { known.new.width ≡ known.old.width }
+    ensures learns { result ≡ true → Learns (all_known known.old whole.now bytes.now) (all_known known.new whole.now bytes.now) (Gives known.old.width row.now sum.now) }
+    ensures refuses { result ≡ false → Refuses (all_known known.old whole.now bytes.now) (Gives known.old.width row.now sum.now) }
+{
     *told = true;
     match known.add_row(row, sum) {
         Added::New => true,
@@ -392,7 +418,8 @@ fn add_sum(
         return is_zero(sum);
     }
     parity.write_open(row, first, whole);
-    add_open(known, told, whole, free, bytes, row, sum)
+    parity.touch_open(free, first, whole);
+    add_touched(known, told, whole, free, bytes, row, sum)
 }
 
 // Moves the flags behind the first `count` to the front, and writes as many behind them.
@@ -427,9 +454,10 @@ fn forget_told(known: &mut Knowledge<Gf256>, told: bool, count: usize)
     ensures solutions { Forgets gf256_product count known.old known.new }
     ensures quiet { told ≡ false → IsQuiet known.new }
 {
-    if told {
-        known.forget_front(count);
+    if !told || count == 0 {
+        return;
     }
+    known.forget_front(count);
 }
 
 // Whether an equation may still say something.

@@ -86,6 +86,24 @@ impl ParitySum {
     {
         write_rest(self.cols.as_slice(), self.row.as_slice(), row, first, flags);
     }
+
+    // Turns off what stands at the columns of these coefficients.
+    pub(crate) fn touch_open(&self, free: &mut [bool], first: usize, flags: &[bool])
+        requires room { first + length self.now.row ≤ length free.old }
+        requires flags { length flags.now ≡ length free.old }
+        ensures count { length free.new ≡ length free.old }
+        ensures less { (c : ℕ) → slice_index_or free.new c false ≡ true → slice_index_or free.old c false ≡ true }
+        ensures touched { (c : ℕ) → slice_index_or free.new c false ≡ true → open_at (length free.old) first self.now.row flags.now c ≡ 0 }
+        ensures kept { (c : ℕ) → slice_index_or flags.now c false ≡ true → slice_index_or free.old c false ≡ true → slice_index_or free.new c false ≡ true }
+    {
+        touch_rest(
+            self.cols.as_slice(),
+            self.row.as_slice(),
+            free,
+            first,
+            flags,
+        );
+    }
 }
 
 // Does nothing. Its contract says what the type does: a byte is below 256.
@@ -119,6 +137,24 @@ fn write_rest(cols: &[usize], own: &[Gf256], row: &mut [Gf256], first: usize, fl
         let c = cols[i];
         if !flags[first + c] {
             row[first + c] = own[c];
+        }
+    }
+}
+
+// Turns off what stands at these columns, from `first` on, where no flag is set.
+fn touch_rest(cols: &[usize], own: &[Gf256], free: &mut [bool], first: usize, flags: &[bool])
+    requires columns { AreColumns own.now (length own.now) cols.now }
+    requires room { first + length own.now ≤ length free.old }
+    requires flags { length flags.now ≡ length free.old }
+    ensures count { length free.new ≡ length free.old }
+    ensures less { (c : ℕ) → slice_index_or free.new c false ≡ true → slice_index_or free.old c false ≡ true }
+    ensures touched { (c : ℕ) → slice_index_or free.new c false ≡ true → open_at (length free.old) first own.now flags.now c ≡ 0 }
+    ensures kept { (c : ℕ) → slice_index_or flags.now c false ≡ true → slice_index_or free.old c false ≡ true → slice_index_or free.new c false ≡ true }
+{
+    for i in 0..cols.len() {
+        let c = first + cols[i];
+        if !flags[c] {
+            free[c] = false;
         }
     }
 }
