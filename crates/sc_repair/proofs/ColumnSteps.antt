@@ -252,10 +252,13 @@ whole_put_in known whole free bytes h vs s =
     let stored = cut n w bytes in
     let values = overlay_vector whole stored vs n w s.values (vectors-cut IsByte n w bytes h.byte_count h.are_bytes) (length-cut n w bytes) in
     (all_known-iff known whole bytes h.whole_count (overlay whole stored vs n)).1 (
-      h.is_free vs (overlay whole stored vs n) s values (λ c lt e. overlay_other whole stored vs n c lt (elim (cases (get_or whole c false)) [
-        | inl set_here ↦ absurd (let other : true ≡ false = sym (h.within c set_here) ∙ e in cc)
-        | inr not_set ↦ not_set
-      ])),
+      h.is_free vs (overlay whole stored vs n) s values (λ c lt e. elim (cases (get_or whole c false)) [
+        | inl set_here ↦ elim (h.within c set_here) [
+          | inl f ↦ absurd (let other : true ≡ false = sym f ∙ e in cc)
+          | inr v ↦ overlay_whole whole stored vs n c lt set_here ∙ sym (v vs s)
+        ]
+        | inr not_set ↦ overlay_other whole stored vs n c lt not_set
+      ]),
       λ c e. (let lt : c < n = omega (arith, flag_within whole c e, h.whole_count) in overlay_whole whole stored vs n c lt e),
     )
 
@@ -333,7 +336,7 @@ same_stored : (old new : Knowledge ℕ) (bytes : List ℕ) → new.cols ≡ old.
 same_stored old new bytes cols width = ap₂ (λ (a b : ℕ). cut a b bytes) cols width
 
 pub columns_more : (old new : Knowledge ℕ) (whole free free' : List Bool) (bytes : List ℕ) → IsColumns old whole free bytes → new.cols ≡ old.cols → new.width ≡ old.width → length free' ≡ length free
-    → ((c : ℕ) → get_or whole c false ≡ true → get_or free' c false ≡ true) → IsFree new free' → IsColumns new whole free' bytes
+    → ((c : ℕ) → get_or whole c false ≡ true → (get_or free' c false ≡ true) ⊎ IsValueAt gf256_product new c (get_or (cut new.cols new.width bytes) c [])) → IsFree new free' → IsColumns new whole free' bytes
 columns_more old new whole free free' bytes h cols width count within is_free =
     record {
       some = (let s = h.some in omega arith);
@@ -403,7 +406,7 @@ any_at_start n w vs values =
 -- ---- a column's bytes come
 
 module _ (known : Knowledge ℕ) (whole free : List Bool) (bytes : List ℕ) (h : IsColumns known whole free bytes) (col : ℕ) (src : List ℕ) (lt : col < known.cols) (long : length src ≡ known.width) where
-  pub columns_stored : All IsByte src → get_or free col false ≡ true → IsColumns known (set whole col true) free (put_mid (col * known.width) known.width bytes src)
+  pub columns_stored : All IsByte src → (get_or free col false ≡ true) ⊎ IsValueAt gf256_product known col src → IsColumns known (set whole col true) free (put_mid (col * known.width) known.width bytes src)
   columns_stored are_bytes is_free_here =
       let w = known.width in
       let room = row_within known.cols w col lt in
@@ -421,8 +424,15 @@ module _ (known : Knowledge ℕ) (whole free : List Bool) (bytes : List ℕ) (h 
         ];
         are_bytes = All-append IsByte (take (col * w) bytes) (src ++ drop w (drop (col * w) bytes)) (All-take IsByte (col * w) bytes h.are_bytes) (All-append IsByte src (drop w (drop (col * w) bytes)) are_bytes (All-drop IsByte w (drop (col * w) bytes) (All-drop IsByte (col * w) bytes h.are_bytes)));
         within = λ c e. elim (cases_eq c col) [
-          | inl same ↦ subst (λ (x : ℕ). get_or free x false ≡ true) (sym same) is_free_here
-          | inr other ↦ h.within c (sym (get_or-set_other whole col c true false other) ∙ e)
+          | inl same ↦ elim is_free_here [
+            | inl f ↦ inl (subst (λ (x : ℕ). get_or free x false ≡ true) (sym same) f)
+            | inr v ↦ inr (λ vs s. ap (λ (x : ℕ). get_or vs x []) same ∙ v vs s ∙ sym (ap (λ (st : List (List ℕ)). get_or st c []) (cut-put_mid known.cols w bytes col src h.byte_count lt long)
+                ∙ ap (λ (x : ℕ). get_or (set (cut known.cols w bytes) col src) x []) same ∙ get_or-set_same (cut known.cols w bytes) col src [] (let l = length-cut known.cols w bytes in omega arith)))
+          ]
+          | inr other ↦ elim (h.within c (sym (get_or-set_other whole col c true false other) ∙ e)) [
+            | inl f ↦ inl f
+            | inr v ↦ inr (λ vs s. v vs s ∙ sym (ap (λ (st : List (List ℕ)). get_or st c []) (cut-put_mid known.cols w bytes col src h.byte_count lt long) ∙ get_or-set_other (cut known.cols w bytes) col c src [] other))
+          ]
         ];
         is_free = h.is_free;
       }
@@ -564,6 +574,14 @@ module _ (old new : Knowledge ℕ) (whole free : List Bool) (bytes bytes' : List
         ]),
       )
 
+  value_moves : (c : ℕ) → c < old.cols - count → IsValueAt gf256_product old (count + c) (get_or (cut old.cols old.width bytes) (count + c) []) → IsValueAt gf256_product new c (get_or (cut new.cols new.width bytes') c [])
+  value_moves c low v vs s =
+      let vv : IsVector (IsBytes old.width) old.cols vs = subst (λ (y : ℕ). IsVector (IsBytes y) old.cols vs) width (subst (λ (y : ℕ). IsVector (IsBytes new.width) y vs) cols s.values) in
+      let f = (forgets vs vv).0 s in
+      let back : count + c - count ≡ c = omega arith in
+      ap (λ (x : ℕ). get_or vs x []) (sym back) ∙ sym (joined_rest f.0 vs f.1 vv (count + c) (omega arith) (omega arith)) ∙ v (f.0 ++ take (old.cols - count) vs) f.2
+      ∙ sym (stored_moves c low) ∙ ap (λ (st : List (List ℕ)). get_or st c []) (ap₂ (λ (a b : ℕ). cut a b bytes') (sym cols) (sym width))
+
   pub columns_forgotten : length bytes' ≡ length bytes → All IsByte bytes' → IsColumns new (drop count whole ++ replicate count false) (drop count free ++ replicate count true) bytes'
   columns_forgotten same_length bytes_ok =
       let lw = h.whole_count in
@@ -579,7 +597,13 @@ module _ (old new : Knowledge ℕ) (whole free : List Bool) (bytes bytes' : List
               | inl low ↦ stored_moves c low ∙ h.blank (count + c) (omega arith) (sym (shift_low whole count false c (omega arith)) ∙ e)
               | inr high ↦ stored_ends c high (omega arith)
             ] ∙ ap zero_bytes (sym width);
-        within = λ c e. (let x = shift_whole whole count c (omega arith) e in shift_low free count true c (let lt = x.0 in omega arith) ∙ h.within (count + c) x.1);
+        within = λ c e. (
+            let x = shift_whole whole count c (omega arith) e in
+            let low : c < old.cols - count = (let lt = x.0 in omega arith) in
+            elim (h.within (count + c) x.1) [
+              | inl f ↦ inl (shift_low free count true c (omega arith) ∙ f)
+              | inr v ↦ inr (value_moves c low v)
+            ]);
         is_free = free_forgotten;
       }
 
@@ -670,5 +694,32 @@ forgets_none known vs values =
 
 -- fewer columns are free
 pub columns_less : (known : Knowledge ℕ) (whole free free' : List Bool) (bytes : List ℕ) → IsColumns known whole free bytes → length free' ≡ length free
-    → ((c : ℕ) → get_or whole c false ≡ true → get_or free' c false ≡ true) → ((c : ℕ) → get_or free' c false ≡ true → get_or free c false ≡ true) → IsColumns known whole free' bytes
-columns_less known whole free free' bytes h count within less = columns_more known known whole free free' bytes h refl refl count within (free_less known free free' h.is_free less)
+    → ((c : ℕ) → get_or whole c false ≡ true → get_or free c false ≡ true → get_or free' c false ≡ true) → ((c : ℕ) → get_or free' c false ≡ true → get_or free c false ≡ true) → IsColumns known whole free' bytes
+columns_less known whole free free' bytes h count kept less =
+    columns_more known known whole free free' bytes h refl refl count (λ c e. elim (h.within c e) [
+      | inl f ↦ inl (kept c e f)
+      | inr v ↦ inr v
+    ]) (free_less known free free' h.is_free less)
+
+-- what the equations say of whole columns they say with one more
+pub within_more : (old new : Knowledge ℕ) (whole free : List Bool) (bytes : List ℕ) → IsColumns old whole free bytes → new.cols ≡ old.cols → new.width ≡ old.width → ((vs : List (List ℕ)) → IsSolution gf256_product new vs → IsSolution gf256_product old vs)
+    → (c : ℕ) → get_or whole c false ≡ true → (get_or free c false ≡ true) ⊎ IsValueAt gf256_product new c (get_or (cut new.cols new.width bytes) c [])
+within_more old new whole free bytes h cols width back c e = elim (h.within c e) [
+  | inl f ↦ inl f
+  | inr v ↦ inr (λ vs s. v vs (back vs s) ∙ sym (ap (λ (st : List (List ℕ)). get_or st c []) (same_stored old new bytes cols width)))
+]
+
+-- a column that the equations determine is stored
+module _ (known : Knowledge ℕ) (whole free : List Bool) (bytes : List ℕ) (h : IsColumns known whole free bytes) (col : ℕ) (src : List ℕ) (lt : col < known.cols) (v : IsValueAt gf256_product known col src) where
+  pub settled_value : ((vs : List (List ℕ)) × IsSolution gf256_product known vs) → IsBytes known.width src
+  settled_value some =
+      let l = some.1.values.width in
+      subst (IsBytes known.width) (v some.0 some.1) (All-get_or (IsBytes known.width) some.0 col [] (omega arith) some.1.values.entries)
+
+  pub settled_same : length src ≡ known.width → get_or whole col false ≡ false → (vs : List (List ℕ))
+      → IsSolution gf256_product (all_known known (set whole col true) (put_mid (col * known.width) known.width bytes src)) vs ↔ IsSolution gf256_product (all_known known whole bytes) vs
+  settled_same long not_yet vs =
+      let learns = learns_stored known whole free bytes h col src lt long not_yet vs in (
+        λ s. (learns.0 s).0,
+        λ s. learns.1 (s, unit_gives known.width known.cols col vs lt s.values.width s.values.entries ∙ v vs ((all_known-iff known whole bytes h.whole_count vs).0 s).0),
+      )

@@ -1,12 +1,12 @@
 -- Columns of which some are known outright, and what equations say of the others. For private contracts alone.
-use Rattle.std.specs.Prelude.{◌≡◌, ◌↔◌, ℕ, ◌*◌, ◌<◌, ◌≤◌, Bool, true, false, List, [], ◌++◌, All, length, map, replicate, slice_index_or, slice_set, if◌then◌else◌}
+use Rattle.std.specs.Prelude.{◌≡◌, ◌↔◌, ◌⊎◌, ℕ, ◌*◌, ◌<◌, ◌≤◌, Bool, true, false, List, [], ◌++◌, All, length, map, replicate, slice_index_or, slice_set, if◌then◌else◌}
 use Rattle.std.specs.List.{range_with_len}
 use Rattle.sc_field.specs.Gf256.{gf256_product}
 use Rattle.sc_matrix.specs.Module.{IsByte}
 use Rattle.sc_matrix.specs.Vector.{IsVector}
 use Rattle.sc_matrix.specs.Layout.{cut}
 use Rattle.sc_echelon.specs.Equation.{Row}
-use Rattle.sc_echelon.specs.Knowledge.{Knowledge, IsSolution, IsBytes, zero_bytes}
+use Rattle.sc_echelon.specs.Knowledge.{Knowledge, IsSolution, IsValueAt, IsBytes, zero_bytes}
 use Rattle.sc_repair.specs.Equations.{Gives}
 
 -- that column c of n has the stored bytes, as an equation; of a column that isn't whole it says nothing
@@ -39,8 +39,8 @@ IsFree known free =
 abbrev pub IsQuiet : Knowledge ℕ → Type 0
 IsQuiet known = (vs : List (List ℕ)) → IsVector (IsBytes known.width) known.cols vs → IsSolution gf256_product known vs
 
--- There is a flag and a byte string for each column, and that of a column that isn't whole is zero. The equations say nothing
--- of whole columns.
+-- There is a flag and a byte string for each column, and that of a column that isn't whole is zero. Of a whole column
+-- the equations say nothing, or just that.
 pub record IsColumns (known : Knowledge ℕ) (whole free : List Bool) (bytes : List ℕ) : Type 0 where
   pub some : 1 ≤ known.width
   pub whole_count : length whole ≡ known.cols
@@ -48,7 +48,7 @@ pub record IsColumns (known : Knowledge ℕ) (whole free : List Bool) (bytes : L
   pub byte_count : length bytes ≡ known.cols * known.width
   pub are_bytes : All IsByte bytes
   pub blank : (c : ℕ) → c < known.cols → slice_index_or whole c false ≡ false → slice_index_or (cut known.cols known.width bytes) c [] ≡ zero_bytes known.width
-  pub within : (c : ℕ) → slice_index_or whole c false ≡ true → slice_index_or free c false ≡ true
+  pub within : (c : ℕ) → slice_index_or whole c false ≡ true → (slice_index_or free c false ≡ true) ⊎ IsValueAt gf256_product known c (slice_index_or (cut known.cols known.width bytes) c [])
   pub is_free : IsFree known free
 
 -- and there is room for a byte string; where nothing was told, the equations say nothing

@@ -1,5 +1,5 @@
 //! What is known of the columns of symbols: the bytes of those that came, and what equations say of the others.
-ghost use Rattle.std.specs.Prelude.{◌≡◌, ◌+◌, ◌*◌, ◌<◌, ◌≤◌, ◌++◌, ℕ, List, IfOk, MatchOption, All, true, false, length, take, drop, replicate, slice_index_or, slice_set};
+ghost use Rattle.std.specs.Prelude.{◌≡◌, ◌↔◌, ◌+◌, ◌*◌, ◌<◌, ◌≤◌, ◌++◌, ℕ, List, IfOk, MatchOption, All, true, false, length, take, drop, replicate, slice_index_or, slice_set};
 ghost use Rattle.sc_field.specs.Gf256.{gf256_product};
 ghost use Rattle.sc_field.specs.Scale.{scaled_sum};
 ghost use Rattle.sc_matrix.specs.Module.{IsByte};
@@ -161,6 +161,39 @@ impl Columns {
         self.whole[col] = true;
         self.bytes.write_at(col * m, bytes);
         true
+    }
+
+    // Stores the bytes of the first columns that the equations determine. What is known stays as it is.
+    pub(crate) fn settle_all(&mut self, count: usize)
+        requires { count ≤ self.old.cols }
+        ensures cols { self.new.cols ≡ self.old.cols }
+        ensures width { self.new.width ≡ self.old.width }
+        ensures same { (vs : List (List ℕ)) → IsSolution gf256_product self.new vs ↔ IsSolution gf256_product self.old vs }
+    {
+        if !self.told {
+            return;
+        }
+        for col in 0..count {
+            self.settle(col);
+        }
+    }
+
+    // The same of one column.
+    fn settle(&mut self, col: usize)
+        requires { col < self.old.cols }
+        ensures cols { self.new.cols ≡ self.old.cols }
+        ensures width { self.new.width ≡ self.old.width }
+        ensures same { (vs : List (List ℕ)) → IsSolution gf256_product self.new vs ↔ IsSolution gf256_product self.old vs }
+    {
+        if self.whole[col] || self.free[col] {
+            return;
+        }
+        self.known.known();
+        let (m, _bytes) = (self.known.width(), self.bytes.len());
+        if let Some(bytes) = self.known.value_of(col) {
+            self.bytes.write_at(col * m, bytes);
+            self.whole[col] = true;
+        }
     }
 
     // The bytes that every solution has at column `col`. None exactly where two solutions differ there.

@@ -260,6 +260,36 @@ fn learn_own_parity(
     }
 }
 
+// The same, and what is determined then is stored.
+fn learn_and_settle(
+    known: &mut Columns,
+    row: &mut [Gf256],
+    code: &ByteCode,
+    sums: &[ParitySum],
+    m: usize,
+    places: usize,
+    place: usize,
+    parity: &[u8],
+) -> bool
+    requires place { place < places }
+    requires sums { AreSums code.now m code.now.r sums.now }
+    requires cols { known.old.cols ≡ places * code.now.k }
+    requires width { known.old.width ≡ m }
+    requires row { length row.old ≡ places * code.now.k }
+    requires parity { length parity.now ≡ code.now.r * m }
+    ensures cols { known.new.cols ≡ known.old.cols }
+    ensures width { known.new.width ≡ known.old.width }
+    ensures row { length row.new ≡ length row.old }
+    ensures learns { result ≡ true → Learns known.old known.new (HasParities code.now m places place code.now.r parity.now) }
+    ensures refuses { result ≡ false → Refuses known.old (HasParities code.now m places place code.now.r parity.now) }
+{
+    if !learn_own_parity(known, row, code, sums, m, places, place, parity) {
+        return false;
+    }
+    known.settle_all(row.len());
+    true
+}
+
 // Adds the equations of the slot at a place of `places`, as `learn_slot`, by the sums of the code.
 pub(crate) fn learn_own(
     known: &mut Columns,
@@ -290,7 +320,7 @@ pub(crate) fn learn_own(
     ensures solvable { (symbols : List (List ℕ)) × IsSolution gf256_product known.new symbols }
 {
     let fits = learn_block(known, row, code.k(), m, places, place, block)
-        && learn_own_parity(known, row, code, sums, m, places, place, parity);
+        && learn_and_settle(known, row, code, sums, m, places, place, parity);
     known.known();
     fits
 }

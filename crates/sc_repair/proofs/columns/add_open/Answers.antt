@@ -6,7 +6,7 @@ use Rattle.sc_repair.proofs.columns.add_open.Goals as goal
 pub add_touched-requires-clause-columns : goal.add_touched-requires-clause-columns
 add_touched-requires-clause-columns c =
     let h = c.requires.columns in
-    columns_less c.args.known.now c.args.whole.now c.args.free.now c.touch.new.free c.args.bytes.now h c.touch.ensures.count (λ i e. c.touch.ensures.kept i (h.within i e) (c.requires.out i e)) (λ i e. (c.touch.ensures.free i e).0)
+    columns_less c.args.known.now c.args.whole.now c.args.free.now c.touch.new.free c.args.bytes.now h c.touch.ensures.count (λ i e f. c.touch.ensures.kept i f (c.requires.out i e)) (λ i e. (c.touch.ensures.free i e).0)
 
 pub returns-then-not-touch-clause-learns : goal.returns-then-not-touch-clause-learns
 returns-then-not-touch-clause-learns c yes' symbols =

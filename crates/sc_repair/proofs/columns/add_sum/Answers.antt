@@ -76,7 +76,7 @@ add_touched-requires-clause-elements c =
 pub add_touched-requires-clause-columns : goal.add_touched-requires-clause-columns
 add_touched-requires-clause-columns c =
     let h = c.requires.columns in
-    columns_less c.args.known.now c.args.whole.now c.args.free.now c.touch_open.new.free c.args.bytes.now h c.touch_open.ensures.count (λ i e. c.touch_open.ensures.kept i e (h.within i e)) c.touch_open.ensures.less
+    columns_less c.args.known.now c.args.whole.now c.args.free.now c.touch_open.new.free c.args.bytes.now h c.touch_open.ensures.count (λ i e f. c.touch_open.ensures.kept i e f) c.touch_open.ensures.less
 
 pub add_touched-requires-clause-touched : goal.add_touched-requires-clause-touched
 add_touched-requires-clause-touched c =

@@ -3,7 +3,7 @@ use Rattle.sc_echelon.specs.Knowledge.{Knowledge}
 use Rattle.sc_echelon.specs.declared.knowledge.Added.TheVariants.{New, Known}
 use Rattle.sc_repair.specs.Equations.{Gives, Learns}
 use Rattle.sc_repair.specs.Columns.{all_known}
-use Rattle.sc_repair.proofs.ColumnSteps.{free_more, columns_more, learns_new, learns_known, refuses_clash}
+use Rattle.sc_repair.proofs.ColumnSteps.{free_more, columns_more, within_more, learns_new, learns_known, refuses_clash}
 use Rattle.sc_repair.proofs.columns.add_touched.Goals as goal
 
 pub returns-in-New-clause-columns : goal.returns-in-New-clause-columns
@@ -12,7 +12,7 @@ returns-in-New-clause-columns c =
     let h = c.requires.columns in
     let new = c.add_row.new.self in
     columns_more known new c.args.whole.now c.args.free.now c.args.free.now c.args.bytes.now h c.add_row.ensures.cols c.add_row.ensures.width refl
-    h.within
+    (within_more known new c.args.whole.now c.args.free.now c.args.bytes.now h c.add_row.ensures.cols c.add_row.ensures.width (λ vs s. (((c.add_row.ensures.adds c.in-New.is) vs).0 s).0))
     (free_more known new c.args.free.now c.args.free.now c.args.row.now c.args.sum.now h.is_free c.add_row.ensures.cols c.add_row.ensures.width c.requires.elements c.requires.row (λ i e. (e, c.requires.touched i e)) (c.add_row.ensures.adds c.in-New.is))
 
 pub returns-in-New-clause-learns : goal.returns-in-New-clause-learns

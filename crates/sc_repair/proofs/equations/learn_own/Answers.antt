@@ -15,7 +15,7 @@ returns-clause-learns c e =
       | then-learn_block w ↦ record {
         mid = c.learn_block.new.known;
         of_block = subst (λ (k : ℕ). Learns c.args.known.now c.learn_block.new.known (HasSymbols k m n place k block)) c.k.ensures.number (c.learn_block.ensures.learns w.if-learn_block.true);
-        of_parity = subst (λ known. Learns c.learn_block.new.known known (HasParities code m n place code.r parity)) (sym w.known-is) (w.learn_own_parity-fits.ensures.learns (sym w.fits-is ∙ e));
+        of_parity = subst (λ known. Learns c.learn_block.new.known known (HasParities code m n place code.r parity)) (sym w.known-is) (w.learn_and_settle-fits.ensures.learns (sym w.fits-is ∙ e));
       }
       | else-learn_block w ↦ absurd (let other : true ≡ false = sym e ∙ w.fits-is ∙ w.if-learn_block.false in cc)
     ]
@@ -31,7 +31,7 @@ returns-clause-refuses c e =
       | then-learn_block w ↦
           at_parity c.learn_block.new.known
           (subst (λ (k : ℕ). Learns c.args.known.now c.learn_block.new.known (HasSymbols k m n place k block)) c.k.ensures.number (c.learn_block.ensures.learns w.if-learn_block.true))
-          (w.learn_own_parity-fits.ensures.refuses (sym w.fits-is ∙ e))
+          (w.learn_and_settle-fits.ensures.refuses (sym w.fits-is ∙ e))
       | else-learn_block w ↦
           at_block (subst (λ (k : ℕ). Refuses c.args.known.now (HasSymbols k m n place k block)) c.k.ensures.number (c.learn_block.ensures.refuses w.if-learn_block.false))
     ]

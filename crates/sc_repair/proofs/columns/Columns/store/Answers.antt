@@ -1,4 +1,4 @@
-use Rattle.std.proofs.Common.{◌≡◌, ℕ, ◌*◌, ◌<◌, List, true, false, length, get_or, set, replicate, sym, ap, ◌∙◌, subst, arith}
+use Rattle.std.proofs.Common.{◌≡◌, ℕ, ◌*◌, ◌<◌, List, true, false, length, get_or, set, replicate, sym, ap, ◌∙◌, subst, arith, inl}
 use borrow.Rule.Slice.PartMut.{put_mid}
 use Rattle.std.proofs.lemmas.List.{get_or_default}
 use Rattle.sc_echelon.specs.Knowledge.{Knowledge}
@@ -21,7 +21,7 @@ invariant_of-self c =
     let written : c.write_at.new.self ≡ put_mid (col * w) w e.bytes src =
     c.write_at.ensures ∙ ap (λ (x : ℕ). put_mid (col * x) (length src) e.bytes src) c.width-m.ensures ∙ ap (λ (x : ℕ). put_mid (col * w) x e.bytes src) long in
     subst (λ (b : List ℕ). IsRoomyColumns e.known e.told (set e.whole.items col true) e.free.items b e.sum.items) (sym written)
-    (record { columns = columns_stored e.known e.whole.items e.free.items e.bytes h col src lt long (are_bytes src c.type_inv.bytes) is_free; quiet = c.self.invariant.quiet; sum_count = c.self.invariant.sum_count })
+    (record { columns = columns_stored e.known e.whole.items e.free.items e.bytes h col src lt long (are_bytes src c.type_inv.bytes) (inl is_free); quiet = c.self.invariant.quiet; sum_count = c.self.invariant.sum_count })
 
 pub returns-clause-stores : goal.returns-clause-stores
 returns-clause-stores c yes' =
