@@ -1,5 +1,7 @@
 //! Worked captures and losses, which a Python script drew, and each public call once.
 
+ghost use Rattle.std.specs.Prelude.{◌≤◌};
+
 use super::*;
 use sc_channel::{Channel, first_bad_window};
 use sc_code::{Code, CodeFile};
@@ -126,15 +128,15 @@ fn generates_long_losses(rt: HostRuntime) -> Result<(), Fail> {
 
 // The code of blocks of one symbol whose parity has `r` symbols, the first of which is the block two slots before, for a
 // channel of windows of 3 slots, spans of 2, `n` losses anywhere and the deadline 2.
-fn delayed(alloc: Global, r: usize, n: u32) -> Result<CodeFile, Fail> {
+fn delayed(alloc: Global, r: usize, n: u32) -> Result<CodeFile, Fail>
+    requires { (1 ≤ r) × (r ≤ 64) }
+{
     let mut lags = Vec::new(alloc);
-    for lag in 0..3 {
-        let mut matrix = Matrix::zeros(alloc, 1, r.max(1))?;
-        if lag == 2 {
-            matrix.set(0, 0, Gf256::one());
-        }
-        lags.push(matrix)?;
-    }
+    lags.push(Matrix::zeros(alloc, 1, r)?)?;
+    lags.push(Matrix::zeros(alloc, 1, r)?)?;
+    let mut last = Matrix::zeros(alloc, 1, r)?;
+    last.set(0, 0, Gf256::one());
+    lags.push(last)?;
     Ok(CodeFile {
         channel: Channel::new(3, 2, n, 2)?,
         code: Code::new(1, r, lags)?,
@@ -153,6 +155,7 @@ fn counts_what_comes_back(rt: HostRuntime) -> Result<(), Fail> {
         (2, 7, 1000, 172, (1002, 319, 916, 84)),
         (2, 9, 1, 1472, (3, 1, 1, 0)),
     ] {
+        assert!(rt; count <= MAX_TRIAL && size >= MIN_SIZE && size <= MAX_SIZE);
         let file = delayed(rt.alloc(), 1, n)?;
         let (slots, lost, equal, missed) = numbers;
         let want = Trial {
@@ -186,6 +189,7 @@ fn counts_many(rt: HostRuntime) -> Result<(), Fail> {
 #[test]
 fn refuses_wide_packets(rt: HostRuntime) -> Result<(), Fail> {
     for (r, fault) in [(63, Some(94_616)), (44, Some(66_534)), (43, None)] {
+        assert!(rt; r >= 1 && r <= 64);
         let file = delayed(rt.alloc(), r, 1)?;
         let right = match trial(rt.alloc(), &file, 42, 2, 1472) {
             Ok(trial) => fault.is_none() && trial.equal == 2,
