@@ -1,7 +1,9 @@
 -- What is read of the reduced row decides the answer.
-use Rattle.std.proofs.Common.{◌≡◌, ◌≢◌, ℕ, ◌<◌, List, length, get_or, Option, sym, ◌∙◌, ap, subst, arith}
+use Rattle.std.proofs.Common.{◌≡◌, ◌≢◌, ℕ, ◌<◌, List, length, get_or, Option, inl, inr, sym, ◌∙◌, ap, subst, arith}
+use Rattle.std.proofs.lemmas.Bool.{cases_eq}
 use Rattle.sc_field.specs.Field.{IsField, IsAction}
 use Rattle.sc_echelon.specs.Equation.{Row, IsRow}
+use Rattle.sc_echelon.specs.Storage.{IsZeroOutside}
 use Rattle.sc_echelon.specs.Steps.{IsLeft, insert, led, reduce}
 use Rattle.sc_echelon.specs.Kept.{known_by, IsKept}
 use Rattle.sc_echelon.specs.Knowledge.{IsBytes, zero_bytes, xor_bytes, act_bytes, Follows, Contradicts, Adds}
@@ -24,6 +26,16 @@ module _ {A : Type 0} {IsElement : A → Type 0} {zero one : A} {add sub mul : A
 
     pub found_nonzero : get_or m.coeffs p zero ≢ zero
     found_nonzero z = nonzero (ap (λ (ys : List A). get_or ys p zero) same ∙ z)
+
+    -- the other rows have a zero there, but for those of pivots before it
+    pub found_others : IsZeroOutside zero 0 p p t
+    found_others = record {
+      before = λ i r e l. absurd (omega arith);
+      after = λ i r e h. elim (cases_eq i p) [
+        | inl s ↦ (let l = found_within in absurd (found_nonzero (ap (λ (j : ℕ). get_or m.coeffs j zero) (sym s) ∙ left.clear i r e (omega arith))))
+        | inr other ↦ kept.first i p r e (omega arith)
+      ];
+    }
 
     pub found_new : 0 < w → (Follows act (known_by n w t) q → ⊥) × (Contradicts act (known_by n w t) q → ⊥)
     found_new hw = added_new laws action n w t kept q m left p found_within found_nonzero hw

@@ -7,12 +7,14 @@ pub mod ForgetFront
 pub mod ValueOf
 pub mod Bytes
 pub mod KnowledgeLaws
-pub mod Ring
+pub mod WindowSteps
 pub mod StorageLaws
 pub mod StoredSteps
+pub mod Skipped
 pub mod AddWork
 pub mod StoredForget
 pub mod Touched
+pub mod WindowTouched
 pub mod NumberRows
 pub mod StoredStart
 pub mod KernelLaws

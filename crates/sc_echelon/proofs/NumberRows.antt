@@ -1,12 +1,13 @@
 -- Coefficients kept as their numbers: what is read of the numbers holds of the elements.
-use Rattle.std.proofs.Common.{◌≡◌, ◌≢◌, ◌↔◌, ℕ, ◌+◌, ◌<◌, List, [], ◌∷◌, ◌++◌, bit_xor, All, Option, None, Some, inl, inr, MatchOption, length, get_or, set, map, take, drop, sym, ◌∙◌, ap, ap₂, append_assoc, subst, arith}
-use Rattle.std.proofs.lemmas.List.{get_or_past, length-map, length-take-le, get_or-map, set_at, drop_more, take_more, map-append, map-id}
-use Rattle.std.proofs.lemmas.List.Elements.{All-map}
+use Rattle.std.proofs.Common.{◌≡◌, ◌≢◌, ◌↔◌, ℕ, ◌+◌, ◌<◌, List, [], ◌∷◌, ◌++◌, bit_xor, All, Option, None, Some, inl, inr, MatchOption, length, get_or, set, map, take, drop, replicate, sym, ◌∙◌, ap, ap₂, append_assoc, subst, arith}
+use Rattle.std.proofs.lemmas.List.{get_or_past, length-map, length-take-le, get_or-map, set_at, drop_more, take_more, map-append, map-id, drop-map}
+use Rattle.std.proofs.lemmas.List.Elements.{All-map, All-append, All-drop, All-replicate}
 use Rattle.sc_field.specs.Field.{IsField, IsAction, IsNumbered, IsNumber}
 use Rattle.sc_field.specs.Scale.{scaled_sum}
 use Rattle.sc_field.specs.ActionLemmas.{is_number}
 use Rattle.sc_matrix.specs.Vector.{IsVector, add_vectors, scale_vector}
 use Rattle.sc_matrix.proofs.VectorLaws.{vector_of, map-map, map_same, IsVector-map, IsVector-add_vectors}
+use Rattle.sc_matrix.proofs.MatrixLaws.{map-replicate}
 use Rattle.sc_matrix.proofs.ByteSteps.{scaled_sum_is}
 use Rattle.sc_matrix.proofs.NumberLaws.{number_module, elements-add, elements-times, element-zero_iff}
 use Rattle.sc_echelon.specs.Equation.{Row}
@@ -60,6 +61,27 @@ module _ {A : Type 0} {IsElement : A → Type 0} {zero one : A} {add sub mul : A
       let n = length-map ns element in
       let within = m.0 in
       subst (λ (xs : List A). (p < length xs) × (p ≢ col) × (get_or xs p zero ≢ zero)) e (omega arith, m.1, λ z. m.2 ((entry-zero ns p h within).0 z))
+
+  -- where all numbers are zeros from some place on, or before it
+  pub zero_read : (ns : List ℕ) (cs : List A) (j : ℕ) → map element ns ≡ cs → All Number ns → get_or ns j 0 ≡ 0 → get_or cs j zero ≡ zero
+  zero_read ns cs j e h z =
+      subst (λ (xs : List A). get_or xs j zero ≡ zero) e
+      (elim (cases_lt j (length ns)) [
+        | inl l ↦ (entry-zero ns j h l).1 z
+        | inr past ↦ get_or_past (map element ns) j zero (let n = length-map ns element in omega arith)
+      ])
+
+  -- ---- the front is forgotten
+  pub numbers_shifted : (c : ℕ) (ns : List ℕ) → All Number ns → All Number (drop c ns ++ replicate c 0)
+  numbers_shifted c ns h =
+      All-append Number (drop c ns) (replicate c 0) (All-drop Number c ns h)
+      (All-replicate Number c 0 (subst Number numbered.of_zero (is_number laws action numbered by_number zero laws.zero_element)))
+
+  pub elements_shifted : (c : ℕ) (ns : List ℕ) → map element (drop c ns ++ replicate c 0) ≡ drop c (map element ns) ++ replicate c zero
+  elements_shifted c ns =
+      map-append element (drop c ns) (replicate c 0)
+      ∙ ap₂ (λ (xs ys : List A). xs ++ ys) (sym (drop-map element c ns))
+      (map-replicate element c 0 ∙ ap (replicate c) (ap element (sym numbered.of_zero) ∙ numbered.element_number zero laws.zero_element))
 
   -- ---- what is written
   pub numbers_of : (xs : List A) → All IsElement xs → All Number (map number xs)

@@ -2,7 +2,7 @@
 use Rattle.std.proofs.Common.{◌≡◌, ◌≢◌, ◌↔◌, ℕ, zero as naught, suc, ◌+◌, ◌<◌, ◌≤◌, ◌⊎◌, min, List, [], ◌∷◌, ◌++◌, length, get_or, map, set, replicate, All, Bool, true, false, Option, None, Some, inl, inr, refl, sym, ◌∙◌, ap, subst, arith}
 use Rattle.std.proofs.lemmas.List.{length-map, length-replicate, get_or-map, get_or_past, map-set}
 use Rattle.std.proofs.lemmas.List.Elements.{All-nil, All-cons, All-head, All-tail}
-use Rattle.std.proofs.lemmas.Bool.{cases_lt, cases_Bool}
+use Rattle.std.proofs.lemmas.Bool.{cases_eq, cases_lt, cases_Bool}
 use Rattle.sc_field.specs.Field.{IsField, IsNumbered}
 use Rattle.sc_matrix.proofs.MatrixLaws.{map-replicate}
 use Rattle.sc_matrix.specs.Vector.{IsVector, dot, scale_vector}
@@ -12,13 +12,13 @@ use Rattle.sc_echelon.specs.Table.{slot, rows_of}
 use Rattle.sc_echelon.specs.Steps.{reduce, eliminate, clear_at, insert, led}
 use Rattle.sc_echelon.specs.Echelon.{zero_row, homogeneous, IsEchelon, HasKernelOf, IsEchelonStored, IsLastOff, IsLeadingEntry, coeffs_at, coeffs_of, counted, on_below}
 use Rattle.sc_echelon.proofs.KernelLaws.{one_more, filled_below, filled_all}
-use Rattle.sc_echelon.specs.Storage.{place, table_of}
+use Rattle.sc_echelon.specs.Storage.{place, table_of, HasRows, IsZeroOutside}
 use Rattle.sc_echelon.specs.Knowledge.{xor_bytes, act_bytes}
 use Rattle.sc_echelon.proofs.StorageLaws.{table_of-off, slot-table_of, length-table_of}
 use Rattle.sc_echelon.proofs.Settle.{cases_option, none_is_not_some, slot_within}
 use Rattle.sc_echelon.proofs.Insert.{solves_rows}
 use Rattle.sc_echelon.proofs.ReducedLaws.{least_found, least_none}
-use Rattle.sc_echelon.proofs.ReducedSteps.{IsLeftOf, start_left, free_left, pivot_left, kernel_known, clear_coeffs, insert_coeffs, echelon_start, kernel_start, echelon_new, kernel_new}
+use Rattle.sc_echelon.proofs.ReducedSteps.{slot_some, IsLeftOf, start_left, free_left, pivot_left, kernel_known, clear_coeffs, insert_coeffs, echelon_start, kernel_start, echelon_new, kernel_new}
 
 module _ {A V : Type 0} where
   pub slot-coeffs_of : (t : List (Option (Row A V))) (i : ℕ) → slot (coeffs_of t) i ≡ coeffs_at (slot t i)
@@ -86,6 +86,22 @@ module _ {A : Type 0} (zero : A) (add mul : A → A → A) where
         record { width = k.width; elements = k.elements; zeros = (kernel_kept IsElement n s v hv).0 ((kernel v hv).1 k.zeros) },
   )
 
+-- ---- each row in use is an equation of no bytes
+place_is : {X : Type 0} (b : Bool) (x y : X) → place b x ≡ Some y → x ≡ y
+place_is true x y e = cc
+place_is false x y e = none_is_not_some refl e
+
+pub bare_rows : {A : Type 0} {IsElement : A → Type 0} {zero one : A} (used : List Bool) (rows : List (Row A (List ℕ))) → IsEchelonStored IsElement zero one used rows → HasRows IsElement (length used) 0 used rows
+bare_rows {zero = zero} used rows stored i r e =
+    let t = table_of used rows in
+    let lt = length-table_of used rows stored.count in
+    let w = slot_within (table_of used rows) i r e in
+    let count = stored.count in
+    let row = stored.form.reduced.rows i (zero_row zero r.coeffs) (slot_some zero (coeffs_of t) i r.coeffs (slot-coeffs_of t i ∙ ap coeffs_at e)) in
+    let is : get_or rows i r ≡ r = place_is (get_or used i false) (get_or rows i r) r (sym (slot-table_of used rows i r count (omega arith)) ∙ e) in
+    let bare : length r.right ≡ 0 = ap (λ (x : Row _ (List ℕ)). length x.right) (sym is) ∙ stored.rights i r (omega arith) in
+    record { width = row.width; elements = row.elements; value = record { width = bare; entries = λ k d l. absurd (omega arith) } }
+
 -- ---- a row is taken in
 module _ {A : Type 0} {IsElement : A → Type 0} {zero one : A} {add sub mul : A → A → A} {inv : A → A} (laws : IsField IsElement zero one add sub mul inv) (act : A → ℕ → ℕ)
     (used : List Bool) (rows : List (Row A (List ℕ))) (stored : IsEchelonStored IsElement zero one used rows) (q m : Row A (List ℕ)) (l : length q.coeffs ≡ length used) (h : All IsElement q.coeffs)
@@ -97,6 +113,23 @@ module _ {A : Type 0} {IsElement : A → Type 0} {zero one : A} {add sub mul : A
   left =
       subst (λ (r : Row A (List ℕ)). IsLeftOf laws (length used) (coeffs_of (table_of used rows)) q.coeffs (length used) r.coeffs) (sym is)
       (left_coeffs laws xor_bytes (act_bytes act) (length used) (table_of used rows) stored.form q l h (length used))
+
+  slot_kept : (i : ℕ) (r : Row A (List ℕ)) → slot (table_of used rows) i ≡ Some r → slot (homogeneous zero (coeffs_of (table_of used rows))) i ≡ Some (zero_row zero r.coeffs)
+  slot_kept i r e = slot_some zero (coeffs_of (table_of used rows)) i r.coeffs (slot-coeffs_of (table_of used rows) i ∙ ap coeffs_at e)
+
+  -- the other rows have a zero at the column of a new pivot, but for those of pivots behind it
+  pub others_left : (p : ℕ) → get_or m.coeffs p zero ≢ zero → IsZeroOutside zero (p + 1) (length used) p (table_of used rows)
+  others_left p ne =
+      let lt = length-table_of used rows stored.count in
+      record {
+        before = λ i r e h. elim (cases_eq i p) [
+          | inl s ↦
+              (let w = slot_within (table_of used rows) i r e in
+              absurd (ne (ap (λ (j : ℕ). get_or m.coeffs j zero) (sym s) ∙ left.clear i (zero_row zero r.coeffs) (slot_kept i r e) (omega arith))))
+          | inr other ↦ stored.form.last i p (zero_row zero r.coeffs) (slot_kept i r e) (omega arith)
+        ];
+        after = λ i r e h. absurd (let w = slot_within (table_of used rows) i r e in omega arith);
+      }
 
   module _ (zeros : (j : ℕ) → j < length m.coeffs → get_or m.coeffs j zero ≡ zero) where
     pub nothing_left : (rs : List (List A)) → HasKernelOf IsElement zero add mul (length used) (coeffs_of (table_of used rows)) rs → HasKernelOf IsElement zero add mul (length used) (coeffs_of (table_of used rows)) (rs ++ q.coeffs ∷ [])

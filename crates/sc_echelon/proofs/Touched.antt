@@ -1,16 +1,14 @@
 -- Bytes that are zero but for some that lie together: what is done to these is done to all.
 use Rattle.std.proofs.Common.{◌≡◌, ℕ, ◌+◌, ◌-◌, ◌<◌, ◌≤◌, List, ◌++◌, length, get_or, map, take, drop, replicate, bit_xor, min, max, inl, inr, sym, ◌∙◌, ap, ap₂, subst, arith}
 use Rattle.std.specs.Int.Bits.{xor_zero_r}
-use Rattle.std.proofs.lemmas.List.{length-map, length-take-le, length-drop, length-replicate, get_or-map, get_or-take, get_or-drop, get_or-replicate, get_or_append_left, get_or-append_right, get_or_past, ext_get_or}
+use Rattle.std.proofs.lemmas.List.{length-map, length-take-le, length-drop, length-replicate, length-append, get_or-map, get_or-take, get_or-drop, get_or-replicate, get_or_append_left, get_or-append_right, get_or_past, ext_get_or}
 use Rattle.std.proofs.lemmas.Bool.{cases_lt}
 use borrow.Rule.Slice.PartMut.{put_mid}
 use Rattle.sc_field.specs.Scale.{scaled_sum}
 use Rattle.sc_matrix.proofs.VectorLaws.{length-add_vectors, get_or-add_vectors}
 use Rattle.sc_matrix.proofs.LayoutLaws.{length-put_mid}
 use Rattle.sc_matrix.proofs.ByteSteps.{scaled_sum_is}
-use Rattle.sc_echelon.specs.Ring.{rotate}
 use Rattle.sc_echelon.specs.Touched.{IsTouched, IsTouchedRow}
-use Rattle.sc_echelon.proofs.Ring.{rotate_front, length-rotate}
 
 -- ---- a part of a list is written
 module _ {X : Type 0} (a k : ℕ) (xs ys : List X) (fits : a + k ≤ length xs) (size : length ys ≡ k) (j : ℕ) (d : X) where
@@ -47,7 +45,7 @@ whole a k xs ys zs d fits size same below inside past =
           ]
     ])
 
-length_mid : {X : Type 0} (a k : ℕ) (xs : List X) → a + k ≤ length xs → length (take k (drop a xs)) ≡ k
+pub length_mid : {X : Type 0} (a k : ℕ) (xs : List X) → a + k ≤ length xs → length (take k (drop a xs)) ≡ k
 length_mid a k xs h = let d = length-drop a xs in length-take-le k (drop a xs) (omega arith)
 
 get_mid : {X : Type 0} (a k j : ℕ) (xs : List X) (d : X) → j < k → get_or (take k (drop a xs)) j d ≡ get_or xs (a + j) d
@@ -129,7 +127,7 @@ IsTouched-map f us from end none h =
     ]) in
     record { order = h.order; within = omega arith; before = λ j lt. zero j (h.before j lt); after = λ j ge. zero j (h.after j ge) }
 
--- ---- the row is turned
+-- ---- the front is forgotten
 -- what is read of a list without its first elements that has zeros at its end
 get_shifted : (c j : ℕ) (xs : List ℕ) → c ≤ length xs → ◌≡◌ {A = ℕ} (get_or (drop c xs ++ replicate c 0) j 0) (get_or xs (c + j) 0)
 get_shifted c j xs h =
@@ -147,71 +145,19 @@ get_shifted c j xs h =
         | inr past ↦ get_or_past (replicate c 0) i 0 (let r' = length-replicate {A = ℕ} c 0 in omega arith)
       ]
 
-module _ (c from end : ℕ) (xs : List ℕ) (touched : IsTouched from end xs) (room : c ≤ from) where
-  pub get_or-turned : (j : ℕ) → get_or (rotate c xs) j 0 ≡ get_or xs (c + j) 0
-  get_or-turned j =
-      let o = touched.order in
-      let w = touched.within in
-      ap (λ (ys : List ℕ). get_or ys j 0) (rotate_front c xs 0 (omega arith) (λ i l. touched.before i (omega arith))) ∙ get_shifted c j xs (omega arith)
-
-  rotate-touched : put_mid (from - c) (end - (from - c)) xs (rotate c (take (end - (from - c)) (drop (from - c) xs))) ≡ rotate c xs
-  rotate-touched =
-      let o = touched.order in
-      let w = touched.within in
-      let a = from - c in
-      let k = end - (from - c) in
-      let mid = take (end - (from - c)) (drop (from - c) xs) in
-      let lm = length_mid (from - c) (end - (from - c)) xs (omega arith) in
-      let lr = length-rotate c (take (end - (from - c)) (drop (from - c) xs)) (omega arith) in
-      whole (from - c) (end - (from - c)) xs (rotate c (take (end - (from - c)) (drop (from - c) xs))) (rotate c xs) 0 (omega arith) (omega arith) (length-rotate c xs (omega arith))
-      (λ j l. get_or-turned j ∙ touched.before (c + j) (omega arith) ∙ sym (touched.before j (omega arith)))
-      (λ j l.
-      get_or-turned (from - c + j)
-      ∙ sym (ap (λ (ys : List ℕ). get_or ys j 0)
-      (rotate_front c (take (end - (from - c)) (drop (from - c) xs)) 0 (omega arith) (λ i m. get_mid (from - c) (end - (from - c)) i xs 0 (omega arith) ∙ touched.before (from - c + i) (omega arith)))
-      ∙ get_shifted c j (take (end - (from - c)) (drop (from - c) xs)) (omega arith) ∙ read (c + j) ∙ ap (λ (i : ℕ). get_or xs i 0) (omega arith)))
-      (λ j l h. get_or-turned j ∙ touched.after (c + j) (omega arith) ∙ sym (touched.after j (omega arith))) where
-        read : (i : ℕ) → get_or (take (end - (from - c)) (drop (from - c) xs)) i 0 ≡ get_or xs (from - c + i) 0
-        read i =
-            let o' = touched.order in
-            let w' = touched.within in
-            let lm' = length_mid (from - c) (end - (from - c)) xs (omega arith) in
-            elim (cases_lt i (end - (from - c))) [
-              | inl l ↦ get_mid (from - c) (end - (from - c)) i xs 0 l
-              | inr past ↦ (get_or_past (take (end - (from - c)) (drop (from - c) xs)) i 0 (omega arith) ∙ sym (touched.after (from - c + i) (omega arith)))
-            ]
-
-  pub IsTouched-turned : IsTouched (from - c) (end - c) (rotate c xs)
-  IsTouched-turned =
-      let o = touched.order in
-      let w = touched.within in
-      let lr = length-rotate c xs (omega arith) in
-      record {
-        order = omega arith;
-        within = omega arith;
-        before = λ j l. get_or-turned j ∙ touched.before (c + j) (omega arith);
-        after = λ j l. get_or-turned j ∙ touched.after (c + j) (omega arith);
-      }
-
-  -- the same, where the part is moved to its front, with zeros behind it
-  pub shifted-touched : put_mid (from - c) (end - (from - c)) xs (drop c (take (end - (from - c)) (drop (from - c) xs)) ++ replicate c 0) ≡ rotate c xs
-  shifted-touched =
-      let o = touched.order in
-      let w = touched.within in
-      let lm = length_mid (from - c) (end - (from - c)) xs (omega arith) in
-      ap (put_mid (from - c) (end - (from - c)) xs)
-      (sym (rotate_front c (take (end - (from - c)) (drop (from - c) xs)) 0 (omega arith)
-      (λ i m. get_mid (from - c) (end - (from - c)) i xs 0 (omega arith) ∙ touched.before (from - c + i) (omega arith))))
-      ∙ rotate-touched
-
--- nothing is said of a list that is told to be touched from its first to its last place
-pub IsTouched-any : (n : ℕ) (xs : List ℕ) → n ≡ length xs → IsTouched 0 n xs
-IsTouched-any n xs e = record {
-  order = omega arith;
-  within = omega arith;
-  before = λ j l. absurd (omega arith);
-  after = λ j l. get_or_past xs j 0 (omega arith);
-}
+pub IsTouched-shifted : (c from end : ℕ) (xs : List ℕ) → c ≤ length xs → IsTouched from end xs → IsTouched (from - c) (end - c) (drop c xs ++ replicate c 0)
+IsTouched-shifted c from end xs h touched =
+    let o = touched.order in
+    let w = touched.within in
+    let d = length-drop c xs in
+    let r = length-replicate {A = ℕ} c 0 in
+    let l = length-append (drop c xs) (replicate c 0) in
+    record {
+      order = omega arith;
+      within = omega arith;
+      before = λ j l. get_shifted c j xs h ∙ touched.before (c + j) (omega arith);
+      after = λ j l. get_shifted c j xs h ∙ touched.after (c + j) (omega arith);
+    }
 
 pub IsTouchedRow-same : (P : ℕ → Type 0) (from end : ℕ) (xs ys : List ℕ) → xs ≡ ys → IsTouchedRow P from end ys → IsTouchedRow P from end xs
 IsTouchedRow-same P from end xs ys e h = subst (λ (zs : List ℕ). IsTouchedRow P from end zs) (sym e) h

@@ -5,6 +5,6 @@ pub mod Table
 pub mod Kept
 pub mod Storage
 pub mod Steps
-pub mod Ring
+pub mod Window
 pub mod Kernel
 pub mod Echelon

@@ -1,7 +1,10 @@
 -- A table kept as one row for each column, and a flag that says whether it is in use.
-use Rattle.std.specs.Prelude.{◌≡◌, ℕ, ◌<◌, ◌≤◌, All, Bool, true, false, List, [], ◌∷◌, length, slice_index_or, Option, None, Some}
-use Rattle.sc_echelon.specs.Equation.{Row}
+use Rattle.std.specs.Prelude.{◌≡◌, ℕ, ◌+◌, ◌<◌, ◌≤◌, All, Bool, true, false, List, [], ◌∷◌, length, slice_index_or, Option, None, Some}
+use Rattle.sc_echelon.specs.Equation.{Row, IsRow}
+use Rattle.sc_echelon.specs.Knowledge.{IsBytes}
 use Rattle.sc_echelon.specs.Kept.{IsKept}
+use Rattle.sc_echelon.specs.Steps.{shift_row}
+use Rattle.sc_echelon.specs.Table.{slot}
 
 abbrev pub place : {X : Type 0} → Bool → X → Option X
 place true x = Some x
@@ -17,6 +20,22 @@ pub record ChangedBelow {X : Type 0} (g : Option X → Option X) (bs : List Bool
   pub count : length new ≡ length old
   pub done : (i : ℕ) (d : X) → i < k → i < length old → place (slice_index_or bs i false) (slice_index_or new i d) ≡ g (place (slice_index_or bs i false) (slice_index_or old i d))
   pub left : (i : ℕ) (d : X) → k ≤ i → i < length old → slice_index_or new i d ≡ slice_index_or old i d
+
+-- The rows in use from place `count` up to place k are so many places nearer to the front, with their coefficients, and
+-- those from k on are as they were.
+pub record MovedBelow {A V : Type 0} (zero : A) (count : ℕ) (used : List Bool) (old : List (Row A V)) (k : ℕ) (new : List (Row A V)) : Type 0 where
+  pub size : length new ≡ length old
+  pub done : (i : ℕ) (d : Row A V) → count + i < k → count + i < length old → slice_index_or used (count + i) false ≡ true → slice_index_or new i d ≡ shift_row zero count (slice_index_or old (count + i) d)
+  pub left : (i : ℕ) (d : Row A V) → k ≤ i → slice_index_or new i d ≡ slice_index_or old i d
+
+-- each row in use is an equation of n columns of w bytes
+abbrev pub HasRows : {A : Type 0} → (A → Type 0) → ℕ → ℕ → List Bool → List (Row A (List ℕ)) → Type 0
+HasRows {A} IsElement n w used rows = (i : ℕ) (r : Row A (List ℕ)) → slot (table_of used rows) i ≡ Some r → IsRow IsElement (IsBytes w) n r
+
+-- the rows of a table before the place `first`, and from the place `end` on, have a zero at column p
+pub record IsZeroOutside {A V : Type 0} (zero : A) (first end p : ℕ) (t : List (Option (Row A V))) : Type 0 where
+  pub before : (i : ℕ) (r : Row A V) → slot t i ≡ Some r → i < first → slice_index_or r.coeffs p zero ≡ zero
+  pub after : (i : ℕ) (r : Row A V) → slot t i ≡ Some r → end ≤ i → slice_index_or r.coeffs p zero ≡ zero
 
 -- How what is known is stored: as many rows as columns, each with room for an equation, and one more to work on.
 pub record IsStored {A : Type 0} (IsElement : A → Type 0) (zero one : A) (w : ℕ) (used : List Bool) (rows : List (Row A (List ℕ))) (work : Row A (List ℕ)) : Type 0 where

@@ -1,14 +1,15 @@
 //! One equation: a coefficient for each column, kept as its number, and the bytes on the right side.
-ghost use Rattle.std.specs.Prelude.{◌≡◌, ◌≢◌, ◌<◌, ◌≤◌, ◌++◌, ℕ, IfOk, MatchOption, All, true, false, length, map, take, drop, replicate, slice_index, slice_index_or};
+ghost use Rattle.std.specs.Prelude.{◌≡◌, ◌≢◌, ◌+◌, ◌<◌, ◌≤◌, ◌++◌, ℕ, IfOk, MatchOption, All, true, false, length, map, take, drop, replicate, slice_index, slice_index_or};
 ghost use Rattle.sc_field.specs.Field.{IsNumber};
 ghost use Rattle.sc_field.specs.Scale.{scaled_sum};
+ghost use Rattle.sc_matrix.specs.Module.{IsByte};
 ghost use Rattle.sc_echelon.specs.Knowledge.{zero_bytes, xor_bytes, act_bytes};
-ghost use Rattle.sc_echelon.specs.Steps.{plus_row, times_row};
-ghost use Rattle.sc_echelon.specs.Ring.{rotate, turn_row};
+ghost use Rattle.sc_echelon.specs.Steps.{plus_row, times_row, shift_row};
 ghost use Rattle.sc_echelon.specs.Echelon.{IsLastNonzero};
 ghost use Rattle.sc_echelon.specs.Touched.{IsTouched};
 
 use crate::tables::Tables;
+use crate::window::Window;
 use sc_field::{Field, Multiplier, element_of};
 use sc_outside::NoMemory;
 use std::alloc::Global;
@@ -18,7 +19,7 @@ use std::marker::{Model, PhantomData};
 // zero before the column `from`, and from the column `end` on.
 #[derive(Drop)]
 pub(crate) struct Equation<F: Field> {
-    numbers: Vec<u8>,
+    numbers: Window,
     from: usize,
     end: usize,
     right: Vec<u8>,
@@ -36,18 +37,25 @@ impl<F: Field> Model for Equation<F> {
 
     ghost coded = { row_code F.code };
 
-    ghost view = { λ e. record { coeffs = map F.element e.numbers.items; right = e.right.items } };
+    ghost view = { λ e. record { coeffs = map F.element e.numbers; right = e.right.items } };
 
-    ghost invariant = { λ e. IsTouchedRow (IsNumber F.IsElement F.number F.element) e.from e.end e.numbers.items };
+    ghost invariant = { λ e. IsTouchedRow (IsNumber F.IsElement F.number F.element) e.from e.end e.numbers };
 }
 
 impl<F: Field> Equation<F> {
-    // The equation of `cols` coefficients and `width` bytes that are all zero.
-    pub(crate) fn zeros(alloc: Global, cols: usize, width: usize) -> Result<Equation<F>, NoMemory>
+    // The equation of `cols` coefficients and `width` bytes that are all zero, with so much room that `room` coefficients can be
+    // forgotten before the others are moved.
+    pub(crate) fn zeros(
+        alloc: Global,
+        cols: usize,
+        room: usize,
+        width: usize,
+    ) -> Result<Equation<F>, NoMemory>
+        requires { cols + room < 18446744073709551616 }
         ensures cols { IfOk result (λ e. length e.coeffs ≡ cols) }
         ensures width { IfOk result (λ e. length e.right ≡ width) }
     {
-        let numbers = vec![in alloc; 0; cols]?;
+        let numbers = Window::zeros(alloc, cols, room)?;
         let right = vec![in alloc; 0; width]?;
         Ok(Equation {
             numbers,
@@ -67,7 +75,31 @@ impl<F: Field> Equation<F> {
         if i < self.from || self.end <= i {
             return F::zero();
         }
-        element_of(self.numbers[i])
+        element_of(self.numbers.as_slice()[i])
+    }
+
+    // Does nothing. Its contract tells a proof that the coefficients are elements, and the right side bytes.
+    pub(crate) fn known(&self)
+        ensures elements { All F.IsElement self.now.coeffs }
+        ensures bytes { All IsByte self.now.right }
+    {
+        known_bytes(self.right.as_slice());
+    }
+
+    // A column before which all coefficients are zero.
+    pub(crate) fn from(&self) -> usize
+        ensures within { result ≤ length self.now.coeffs }
+        ensures zeros { (j : ℕ) → j < result → slice_index_or self.now.coeffs j F.zero ≡ F.zero }
+    {
+        self.from
+    }
+
+    // A column from which on all coefficients are zero.
+    pub(crate) fn end(&self) -> usize
+        ensures within { result ≤ length self.now.coeffs }
+        ensures zeros { (j : ℕ) → result ≤ j → slice_index_or self.now.coeffs j F.zero ≡ F.zero }
+    {
+        self.end
     }
 
     // The bytes on the right side.
@@ -118,7 +150,7 @@ impl<F: Field> Equation<F> {
         ensures value { self.new ≡ record { coeffs = coeffs.now; right = right.now } }
         ensures elements { All F.IsElement coeffs.now }
     {
-        write_numbers(self.numbers.as_mut_slice(), coeffs);
+        self.numbers.write_numbers(coeffs);
         self.from = zeros_before(self.numbers.as_slice());
         self.end = zeros_behind(self.numbers.as_slice(), self.from);
         self.right.as_mut_slice().copy_from_slice(right);
@@ -130,7 +162,7 @@ impl<F: Field> Equation<F> {
         requires numbers { All (IsNumber F.IsElement F.number F.element) numbers.now }
         ensures { self.new ≡ record { coeffs = map F.element numbers.now; right = self.old.right } }
     {
-        self.numbers.as_mut_slice().copy_from_slice(numbers);
+        self.numbers.write_at(0, numbers);
         self.from = zeros_before(self.numbers.as_slice());
         self.end = zeros_behind(self.numbers.as_slice(), self.from);
     }
@@ -164,7 +196,7 @@ impl<F: Field> Equation<F> {
         add_both(
             c,
             tables,
-            self.numbers.as_mut_slice(),
+            &mut self.numbers,
             other.numbers.as_slice(),
             other.from,
             other.end,
@@ -181,38 +213,26 @@ impl<F: Field> Equation<F> {
     {
         c.known();
         let by = Multiplier::new(c);
-        scale_between(&by, self.numbers.as_mut_slice(), self.from, self.end);
+        self.numbers.scale_between(&by, self.from, self.end);
         by.scale(self.right.as_mut_slice());
     }
 
-    // The coefficients then begin at column `count` and go round.
-    pub(crate) fn turn(&mut self, count: usize)
+    // Forgets the first `count` coefficients, and has as many zeros behind.
+    pub(crate) fn shift(&mut self, count: usize)
         requires { count ≤ length self.old.coeffs }
-        ensures { self.new ≡ turn_row count self.old }
+        ensures { self.new ≡ shift_row F.zero count self.old }
     {
-        if self.from < count {
-            self.numbers.as_mut_slice().rotate_left(count);
-            self.from = 0;
-            self.end = self.numbers.len();
-        } else {
-            move_down(self.numbers.as_mut_slice(), self.from, self.end, count);
-            self.from -= count;
-            self.end -= count;
-        }
+        self.numbers.shift(count);
+        self.from = self.from.saturating_sub(count);
+        self.end = self.end.saturating_sub(count);
     }
 }
 
-// Writes the numbers of the elements.
-fn write_numbers<F: Field>(numbers: &mut [u8], xs: &[F])
-    requires { length numbers.old ≡ length xs.now }
-    ensures value { numbers.new ≡ map F.number xs.now }
-    ensures elements { All F.IsElement xs.now }
+// Does nothing. Its contract tells a proof that bytes are bytes.
+fn known_bytes(bytes: &[u8])
+    ensures { All IsByte bytes.now }
 {
-    for i in 0..numbers.len() {
-        let x = xs[i];
-        x.known();
-        numbers[i] = x.number();
-    }
+    let _count = bytes.len();
 }
 
 // How many zeros the bytes begin with.
@@ -246,7 +266,7 @@ fn zeros_behind(xs: &[u8], from: usize) -> usize
 fn add_both<F: Field>(
     c: F,
     tables: &mut Tables<F>,
-    first: &mut [u8],
+    first: &mut Window,
     one: &[u8],
     from: usize,
     end: usize,
@@ -270,7 +290,7 @@ fn add_both<F: Field>(
 fn add_first<F: Field>(
     c: F,
     tables: &mut Tables<F>,
-    first: &mut [u8],
+    first: &mut Window,
     one: &[u8],
     from: usize,
     end: usize,
@@ -303,7 +323,7 @@ fn adds_nothing<F: Field>(c: F, first: &[u8], one: &[u8], second: &[u8], other: 
 // The same, by a multiplier.
 fn add_by<F: Field>(
     by: &Multiplier<F>,
-    first: &mut [u8],
+    first: &mut Window,
     one: &[u8],
     from: usize,
     end: usize,
@@ -316,8 +336,7 @@ fn add_by<F: Field>(
     ensures first { first.new ≡ scaled_sum (F.act by.now.coefficient) first.old one.now }
     ensures second { second.new ≡ scaled_sum (F.act by.now.coefficient) second.old other.now }
 {
-    by.coefficient.known();
-    by.scale_add(&mut first[from..end], &one[from..end]);
+    first.add_between(by, one, from, end);
     add_right(by, second, other);
 }
 
@@ -330,34 +349,6 @@ fn add_right<F: Field>(by: &Multiplier<F>, right: &mut [u8], other: &[u8])
     if !right.is_empty() {
         by.scale_add(right, other);
     }
-}
-
-// Multiplies bytes that are zero but for those from `from` up to `end`.
-fn scale_between<F: Field>(by: &Multiplier<F>, xs: &mut [u8], from: usize, end: usize)
-    requires { IsTouched from end xs.old }
-    ensures { xs.new ≡ map (F.act by.now.coefficient) xs.old }
-{
-    by.coefficient.known();
-    by.scale(&mut xs[from..end]);
-}
-
-// Moves the bytes from `from` up to `end` down by `count`, where all others are zero.
-fn move_down(xs: &mut [u8], from: usize, end: usize, count: usize)
-    requires touched { IsTouched from end xs.old }
-    requires room { count ≤ from }
-    ensures { xs.new ≡ rotate count xs.old }
-{
-    shift_down(&mut xs[from - count..end], count);
-}
-
-// Moves the bytes behind the first `count` to the front, and writes zeros behind them.
-fn shift_down(xs: &mut [u8], count: usize)
-    requires { count ≤ length xs.old }
-    ensures { xs.new ≡ drop count xs.old ++ replicate count 0 }
-{
-    let kept = xs.len() - count;
-    xs.copy_within(count.., 0);
-    xs[kept..].fill(0);
 }
 
 // The first place with a byte other than 0.

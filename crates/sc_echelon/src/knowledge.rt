@@ -58,8 +58,8 @@ impl<F: Field> Model for Knowledge<F> {
 impl<F: Field> Knowledge<F> {
     /// Nothing is known of `cols` columns of `width` bytes.
     ///
-    /// It reserves a row of `cols` coefficients and `width` bytes for each column, one more to work on, and some 8 kB for
-    /// prepared coefficients.
+    /// It reserves a row of `cols` coefficients, room for as many that are forgotten, and `width` bytes for each column, one
+    /// row more to work on, and some 8 kB for prepared coefficients.
     pub fn start(alloc: Global, cols: usize, width: usize) -> Result<Knowledge<F>, NoMemory>
         requires cols { cols ≤ MAX_COLS }
         requires width { 1 ≤ width }
@@ -67,8 +67,8 @@ impl<F: Field> Knowledge<F> {
         ensures { IfOk result (λ k. k ≡ nothing_known cols width) }
     {
         let used = vec![in alloc; false; cols]?;
-        let rows = blank_rows(alloc, cols, width)?;
-        let work = Equation::zeros(alloc, cols, width)?;
+        let rows = blank_rows(alloc, cols, cols, width)?;
+        let work = Equation::zeros(alloc, cols, cols, width)?;
         let tables = Tables::none(alloc)?;
         Ok(Knowledge {
             width,
@@ -107,8 +107,9 @@ impl<F: Field> Knowledge<F> {
     /// `Clash` exactly where no solution meets it, and `Known` exactly where all do. Then nothing changes. Else it is
     /// `New`, and the solutions are those that meet it.
     ///
-    /// It costs a few looks at each column, and for each row that it is cleared by, or that it clears, a pass over `width`
-    /// bytes and those columns from the first to the last that the added row touches.
+    /// Each coefficient is read once. Then it costs a look at each column from the first to the last that the row touches, and
+    /// at each before its pivot where it is new. For each row that it is cleared by, or that it clears, it costs a pass
+    /// over `width` bytes and the columns from the first to the last that the added row touches.
     pub fn add_row(&mut self, coeffs: &[F], rhs: &[u8]) -> Added
         requires coeffs { length coeffs.now ≡ self.old.cols }
         requires rhs { length rhs.now ≡ self.old.width }
@@ -153,8 +154,8 @@ impl<F: Field> Knowledge<F> {
     /// A list then is a solution exactly where some values of the forgotten columns in front of it, less its last
     /// `count` values, make a solution of before. So what the forgotten columns say of the others stays known.
     ///
-    /// It costs a look at each row, and moves the coefficients of those that stay, from the first to the last that each
-    /// touches. No right side is moved.
+    /// It costs a look at each column, and for each row that stays the change of a few numbers: its columns move by an
+    /// index. Only where a row has forgotten as many columns as it has, its coefficients are moved.
     pub fn forget_front(&mut self, count: usize)
         requires { count ≤ self.old.cols }
         ensures cols { self.new.cols ≡ self.old.cols }

@@ -6,9 +6,11 @@ mod knowledge;
 mod reduced;
 mod table;
 mod tables;
+mod window;
 
 pub use knowledge::{Added, Knowledge, MAX_BYTES, MAX_COLS};
 pub use reduced::Reduced;
+pub use window::Window;
 
 #[cfg(test)]
 mod tests;

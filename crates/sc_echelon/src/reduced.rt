@@ -49,8 +49,8 @@ impl<F: Field> Reduced<F> {
     {
         let cols = m.cols();
         let mut used = vec![in alloc; false; cols]?;
-        let mut rows = blank_rows(alloc, cols, 0)?;
-        let mut work = Equation::zeros(alloc, cols, 0)?;
+        let mut rows = blank_rows(alloc, cols, 0, 0)?;
+        let mut work = Equation::zeros(alloc, cols, 0, 0)?;
         let mut tables = Tables::none(alloc)?;
         reduce_rows(
             rows.as_mut_slice(),
@@ -218,7 +218,7 @@ fn take_in<F: Field>(
 {
     clear_at_pivots(work, used, rows, tables);
     match work.last_nonzero() {
-        Some(p) => insert_row(rows, used, work, p, tables),
+        Some(p) => insert_row(rows, used, work, p, p + 1, used.len(), tables),
         None => {}
     }
 }

@@ -1,13 +1,12 @@
 //! Equations in reduced form: the row whose pivot is column p stands at place p, and a flag says whether there is one.
 //!
 //! A pivot is the first nonzero coefficient of its row and a one, and every other row has a zero there.
-ghost use Rattle.std.specs.Prelude.{◌≡◌, ◌≢◌, ◌++◌, ◌-◌, ◌↔◌, ◌<◌, ◌≤◌, ℕ, IfOk, All, false, length, map, take, replicate, slice_index_or};
+ghost use Rattle.std.specs.Prelude.{◌≡◌, ◌≢◌, ◌+◌, ◌++◌, ◌↔◌, ◌<◌, ◌≤◌, ℕ, IfOk, All, false, length, map, drop, replicate, slice_index_or};
 ghost use Rattle.sc_echelon.specs.Equation.{IsRow};
 ghost use Rattle.sc_echelon.specs.Kept.{known_by, IsKept};
-ghost use Rattle.sc_echelon.specs.Storage.{table_of, ChangedBelow, IsStored};
+ghost use Rattle.sc_echelon.specs.Storage.{table_of, ChangedBelow, HasRows, IsStored, IsZeroOutside, MovedBelow};
 ghost use Rattle.sc_echelon.specs.Steps.{clear_at, insert, led, reduce};
 ghost use Rattle.sc_echelon.specs.Knowledge.{IsBytes, zero_bytes, xor_bytes, act_bytes, Follows, Contradicts, Adds, Forgets};
-ghost use Rattle.sc_echelon.specs.Ring.{TurnedBelow};
 
 use crate::equation::Equation;
 use crate::knowledge::Added;
@@ -17,25 +16,27 @@ use sc_outside::NoMemory;
 use std::alloc::Global;
 use std::mem;
 
-// A row for each of `cols` columns, with room for an equation.
+// A row for each of `cols` columns, with room for an equation, and to forget `room` columns before one is moved.
 pub(crate) fn blank_rows<F: Field>(
     alloc: Global,
     cols: usize,
+    room: usize,
     width: usize,
 ) -> Result<Vec<Equation<F>>, NoMemory>
+    requires { cols + room < 18446744073709551616 }
     ensures count { IfOk result (λ rows. length rows.items ≡ cols) }
     ensures widths { IfOk result (λ rows. All (λ r. length r.coeffs ≡ cols) rows.items) }
     ensures rights { IfOk result (λ rows. All (λ r. length r.right ≡ width) rows.items) }
 {
     let mut rows = Vec::with_capacity(alloc, cols)?;
     for _k in 0..cols {
-        let row = Equation::zeros(alloc, cols, width)?;
+        let row = Equation::zeros(alloc, cols, room, width)?;
         rows.push(row)?;
     }
     Ok(rows)
 }
 
-// Clears the row at each pivot of the table that `used` and `rows` store.
+// Clears the row at each pivot of the table that `used` and `rows` store. It looks at the columns alone that the row touches.
 pub(crate) fn clear_at_pivots<F: Field>(
     work: &mut Equation<F>,
     used: &[bool],
@@ -46,23 +47,31 @@ pub(crate) fn clear_at_pivots<F: Field>(
     requires width { length work.old.coeffs ≡ length used.now }
     requires widths { All (λ r. length r.coeffs ≡ length used.now) rows.now }
     requires rights { All (λ r. length r.right ≡ length work.old.right) rows.now }
+    requires elements { HasRows F.IsElement (length used.now) (length work.old.right) used.now rows.now }
     ensures value { work.new ≡ reduce F.zero F.add F.sub F.mul xor_bytes (act_bytes F.act) (table_of used.now rows.now) (length used.now) work.old }
     ensures width { length work.new.coeffs ≡ length work.old.coeffs }
     ensures right { length work.new.right ≡ length work.old.right }
 {
-    for k in 0..used.len() {
+    work.known();
+    let mut k = work.from();
+    while k < work.end() {
         if used[k] {
             let factor = F::zero().sub(work.coeff(k));
             work.add_multiple(factor, &rows[k], tables);
         }
+        k += 1;
     }
+    work.known();
 }
 
-// Clears column `p` in the rows in use, by a row that has a one there.
+// Clears column `p` in the rows in use, by a row that has a one there. No row but those from `first` up to `end` has another
+// coefficient than zero in it.
 fn clear_column<F: Field>(
     rows: &mut [Equation<F>],
     used: &[bool],
     p: usize,
+    first: usize,
+    end: usize,
     by: &Equation<F>,
     tables: &mut Tables<F>,
 )
@@ -70,11 +79,16 @@ fn clear_column<F: Field>(
     requires p_in { p < length by.now.coeffs }
     requires widths { All (λ r. length r.coeffs ≡ length by.now.coeffs) rows.old }
     requires rights { All (λ r. length r.right ≡ length by.now.right) rows.old }
+    requires order { first ≤ end }
+    requires range { end ≤ length used.now }
+    requires elements { HasRows F.IsElement (length by.now.coeffs) (length by.now.right) used.now rows.old }
+    requires others { IsZeroOutside F.zero first end p (table_of used.now rows.old) }
     ensures cleared { ChangedBelow (clear_at F.zero F.add F.sub F.mul xor_bytes (act_bytes F.act) p by.now) used.now rows.old (length used.now) rows.new }
     ensures widths { All (λ r. length r.coeffs ≡ length by.now.coeffs) rows.new }
     ensures rights { All (λ r. length r.right ≡ length by.now.right) rows.new }
 {
-    for k in 0..used.len() {
+    by.known();
+    for k in first..end {
         if used[k] {
             let row = &mut rows[k];
             let factor = F::zero().sub(row.coeff(p));
@@ -83,12 +97,15 @@ fn clear_column<F: Field>(
     }
 }
 
-// Scales the work row to a one at column `p`, clears that column in the rows in use, and puts the row there.
+// Scales the work row to a one at column `p`, clears that column in the rows in use, and puts the row there. No row but those
+// from `first` up to `end` has another coefficient than zero in it.
 pub(crate) fn insert_row<F: Field>(
     rows: &mut [Equation<F>],
     used: &mut [bool],
     work: &mut Equation<F>,
     p: usize,
+    first: usize,
+    end: usize,
     tables: &mut Tables<F>,
 )
     requires count { length rows.old ≡ length used.old }
@@ -97,6 +114,10 @@ pub(crate) fn insert_row<F: Field>(
     requires lead { slice_index_or work.old.coeffs p F.zero ≢ F.zero }
     requires widths { All (λ r. length r.coeffs ≡ length work.old.coeffs) rows.old }
     requires rights { All (λ r. length r.right ≡ length work.old.right) rows.old }
+    requires order { first ≤ end }
+    requires range { end ≤ length used.old }
+    requires elements { HasRows F.IsElement (length work.old.coeffs) (length work.old.right) used.old rows.old }
+    requires others { IsZeroOutside F.zero first end p (table_of used.old rows.old) }
     ensures table { table_of used.new rows.new ≡ insert F.zero F.add F.sub F.mul xor_bytes (act_bytes F.act) p
         (led F.zero F.mul F.inv (act_bytes F.act) p work.old) (table_of used.old rows.old) }
     ensures count { length rows.new ≡ length used.new }
@@ -108,7 +129,7 @@ pub(crate) fn insert_row<F: Field>(
 {
     let lead = work.coeff(p);
     work.multiply(lead.inv());
-    clear_column(rows, used, p, work, tables);
+    clear_column(rows, used, p, first, end, work, tables);
     mem::swap(&mut rows[p], work);
     used[p] = true;
 }
@@ -134,7 +155,7 @@ pub(crate) fn add_work<F: Field>(
     clear_at_pivots(work, used, rows, tables);
     match work.first_nonzero() {
         Some(p) => {
-            insert_row(rows, used, work, p, tables);
+            insert_row(rows, used, work, p, 0, p, tables);
             Added::New
         }
         None => {
@@ -147,28 +168,31 @@ pub(crate) fn add_work<F: Field>(
     }
 }
 
-// Turns the coefficients of each row in use that stands at place `count` or behind it.
-fn turn_rows<F: Field>(rows: &mut [Equation<F>], used: &[bool], count: usize)
+// Moves the rows in use that stand at place `count` or behind it so many places to the front, and with each its coefficients.
+fn move_rows<F: Field>(rows: &mut [Equation<F>], used: &[bool], count: usize)
     requires size { length rows.old ≡ length used.now }
     requires fits { count ≤ length used.now }
     requires widths { All (λ r. length r.coeffs ≡ length used.now) rows.old }
-    ensures turned { TurnedBelow count used.now rows.old (length used.now) rows.new }
+    ensures moved { MovedBelow F.zero count used.now rows.old (length used.now) rows.new }
     ensures widths { All (λ r. length r.coeffs ≡ length used.now) rows.new }
     ensures rights { (w : ℕ) → All (λ r. length r.right ≡ w) rows.old → All (λ r. length r.right ≡ w) rows.new }
 {
     for k in count..used.len() {
         if used[k] {
-            rows[k].turn(count);
+            rows[k].shift(count);
+            rows.swap(k - count, k);
         }
     }
 }
 
-// Turns the flags from `from` on off.
-fn switch_off(flags: &mut [bool], from: usize)
-    requires { from ≤ length flags.old }
-    ensures { flags.new ≡ take from flags.old ++ replicate (length flags.old - from) false }
+// Moves the flags behind the first `count` to the front. Behind them all are off.
+fn shift_flags(flags: &mut [bool], count: usize)
+    requires { count ≤ length flags.old }
+    ensures { flags.new ≡ drop count flags.old ++ replicate count false }
 {
-    flags[from..].fill(false);
+    let kept = flags.len() - count;
+    flags.copy_within(count.., 0);
+    flags[kept..].fill(false);
 }
 
 // Forgets the first `count` columns of what is stored.
@@ -186,9 +210,6 @@ pub(crate) fn forget_rows<F: Field>(
     ensures solutions { Forgets F.act count (known_by (length used.old) width (table_of used.old rows.old))
         (known_by (length used.old) width (table_of used.new rows.new)) }
 {
-    turn_rows(rows, used, count);
-    rows.rotate_left(count);
-    used.rotate_left(count);
-    let from = used.len() - count;
-    switch_off(used, from);
+    move_rows(rows, used, count);
+    shift_flags(used, count);
 }

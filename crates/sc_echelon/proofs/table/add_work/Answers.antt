@@ -1,6 +1,7 @@
 use Rattle.std.proofs.Common.{length, refl, sym, ◌∙◌}
 use Rattle.sc_echelon.specs.Storage.{table_of}
-use Rattle.sc_echelon.proofs.AddWork.{left_reduced, found_new, found_adds, found_kept, none_known, none_clash}
+use Rattle.sc_echelon.proofs.Skipped.{HasRows-same}
+use Rattle.sc_echelon.proofs.AddWork.{found_others, left_reduced, found_new, found_adds, found_kept, none_known, none_clash}
 use Rattle.sc_echelon.proofs.table.add_work.Goals as goal
 
 pub returns-in-Some-clause-stored : goal.returns-in-Some-clause-stored
@@ -62,3 +63,17 @@ returns-else-is_zero_right-clause-clash g c =
     let both = none_clash g.met.F.Field.field g.met.F.Field.action (length c.args.used.now) c.args.width (table_of c.args.used.now c.args.rows.now) c.requires.stored.kept c.args.work.now
     c.clear_at_pivots.new.work (left_reduced g.met.F.Field.field g.met.F.Field.action (length c.args.used.now) c.args.width (table_of c.args.used.now c.args.rows.now) c.requires.stored.kept c.args.work.now c.clear_at_pivots.new.work c.requires.row c.clear_at_pivots.ensures.value) c.clear_at_pivots.new.work.coeffs refl c.in-None.ensures c.clear_at_pivots.new.work.right refl (c.is_zero_right.ensures.no c.if-is_zero_right.false) in
     (λ e. both.0, λ f. refl)
+
+pub clear_at_pivots-requires-clause-elements : goal.clear_at_pivots-requires-clause-elements
+clear_at_pivots-requires-clause-elements g c = HasRows-same c.args.used.now c.args.rows.now (length c.args.used.now) (length c.args.work.now.right) refl c.requires.stored.work_right c.requires.stored.kept.reduced.rows
+
+pub insert_row-requires-clause-elements : goal.insert_row-requires-clause-elements
+insert_row-requires-clause-elements g c =
+    let m = c.clear_at_pivots.new.work in
+    let stored = c.requires.stored in
+    HasRows-same c.args.used.now c.args.rows.now (length m.coeffs) (length m.right) (c.clear_at_pivots.ensures.width ∙ stored.work_width) (c.clear_at_pivots.ensures.right ∙ stored.work_right) stored.kept.reduced.rows
+
+pub insert_row-requires-clause-others : goal.insert_row-requires-clause-others
+insert_row-requires-clause-others g c =
+    found_others g.met.F.Field.field g.met.F.Field.action (length c.args.used.now) c.args.width (table_of c.args.used.now c.args.rows.now) c.requires.stored.kept c.args.work.now
+    c.clear_at_pivots.new.work (left_reduced g.met.F.Field.field g.met.F.Field.action (length c.args.used.now) c.args.width (table_of c.args.used.now c.args.rows.now) c.requires.stored.kept c.args.work.now c.clear_at_pivots.new.work c.requires.row c.clear_at_pivots.ensures.value) c.clear_at_pivots.new.work.coeffs refl c.in-Some.p c.in-Some.ensures.0 c.in-Some.ensures.1

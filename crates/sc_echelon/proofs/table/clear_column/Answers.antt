@@ -1,4 +1,4 @@
-use Rattle.std.proofs.Common.{◌≡◌, ◌+◌, ◌<◌, length, get_or, set, subst, sym, ◌∙◌, ap, ap₂, arith}
+use Rattle.std.proofs.Common.{◌≡◌, ◌+◌, ◌<◌, length, refl, get_or, set, subst, sym, ◌∙◌, ap, ap₂, arith}
 use Rattle.std.proofs.lemmas.List.{length-map}
 use Rattle.std.proofs.lemmas.List.Elements.{All-set, All-same}
 use Rattle.sc_matrix.specs.Vector.{scale_vector}
@@ -6,6 +6,8 @@ use Rattle.sc_matrix.proofs.VectorLaws.{length-add_vectors, length-scale_vector}
 use Rattle.sc_echelon.specs.Steps.{plus_row, clear_at}
 use Rattle.sc_echelon.specs.Storage.{ChangedBelow}
 use Rattle.sc_echelon.specs.Knowledge.{xor_bytes, act_bytes}
+use Rattle.sc_echelon.proofs.Bytes.{bytes_module}
+use Rattle.sc_echelon.proofs.Skipped.{changed-from, changed-to}
 use Rattle.sc_echelon.proofs.StoredSteps.{cleared_on, cleared_off}
 use Rattle.sc_echelon.proofs.table.clear_column.Goals as goal
 use Rattle.sc_echelon.proofs.table.clear_column.Goals.{then-used-k, else-used-k}
@@ -51,3 +53,29 @@ loop-k-preserved g c =
             rights = All-same (λ s. length s.right ≡ length by.right) c.if-used-k.rows c.loop-k.rows w.rows-is c.loop-k.invariant.rights;
           }
     ]
+
+-- the rows before the first that may have another coefficient than zero in the column
+pub loop-k-init : goal.loop-k-init
+loop-k-init g c =
+    let by = c.args.by.now in
+    record {
+      changed =
+          changed-from g.met.F.Field.field (bytes_module g.met.F.Field.action (length by.right)) (length by.coeffs) c.args.p by
+          (record { width = refl; elements = c.known.ensures.elements; value = record { width = refl; entries = c.known.ensures.bytes } })
+          c.args.used.now c.args.rows.now c.requires.count c.requires.elements c.args.first c.args.end c.requires.others;
+      widths = c.requires.widths;
+      rights = c.requires.rights;
+    }
+
+-- and those from the end of these on
+pub returns-clause-cleared : goal.returns-clause-cleared
+returns-clause-cleared g c =
+    let by = c.args.by.now in
+    let below = c.loop-k.auto.k-end in
+    let past = c.loop-k-test.false in
+    let order = c.requires.order in
+    let all : c.loop-k.k ≡ c.args.end = omega arith in
+    changed-to g.met.F.Field.field (bytes_module g.met.F.Field.action (length by.right)) (length by.coeffs) c.args.p by
+    (record { width = refl; elements = c.known.ensures.elements; value = record { width = refl; entries = c.known.ensures.bytes } })
+    c.args.used.now c.args.rows.now c.requires.count c.requires.elements c.args.first c.args.end c.requires.others c.loop-k.rows
+    (subst (λ k. ChangedBelow (clear_at g.F.Field.zero g.F.Field.add g.F.Field.sub g.F.Field.mul xor_bytes (act_bytes g.F.Field.act) c.args.p by) c.args.used.now c.args.rows.now k c.loop-k.rows) all c.loop-k.invariant.changed)

@@ -5,6 +5,7 @@ use Rattle.sc_matrix.proofs.VectorLaws.{length-scale_vector}
 use Rattle.sc_echelon.specs.Steps.{times_row, insert, led}
 use Rattle.sc_echelon.specs.Storage.{table_of}
 use Rattle.sc_echelon.specs.Knowledge.{xor_bytes, act_bytes}
+use Rattle.sc_echelon.proofs.Skipped.{HasRows-same}
 use Rattle.sc_echelon.proofs.StorageLaws.{table_of-insert}
 use Rattle.sc_echelon.proofs.table.insert_row.Goals as goal
 
@@ -37,3 +38,10 @@ returns-clause-rights g c =
     let same : length c.multiply.new.self.right ≡ length c.args.work.now.right = ap (λ r. length r.right) c.multiply.ensures ∙ length-map c.args.work.now.right (g.F.Field.act c.inv.result) in
     All-set (λ r. length r.right ≡ length c.args.work.now.right) c.clear_column.new.rows c.args.p c.swap.new.x (ap (λ r. length r.right) c.swap.ensures.x_after ∙ same)
     (λ k d l. c.clear_column.ensures.rights k d l ∙ same)
+
+pub clear_column-requires-clause-elements : goal.clear_column-requires-clause-elements
+clear_column-requires-clause-elements g c =
+    let work = c.args.work.now in
+    HasRows-same c.args.used.now c.args.rows.now (length c.multiply.new.self.coeffs) (length c.multiply.new.self.right)
+    (ap (λ r. length r.coeffs) c.multiply.ensures ∙ length-scale_vector g.F.Field.mul c.inv.result work.coeffs)
+    (ap (λ r. length r.right) c.multiply.ensures ∙ length-map work.right (g.F.Field.act c.inv.result)) c.requires.elements

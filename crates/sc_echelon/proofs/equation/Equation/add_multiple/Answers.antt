@@ -17,18 +17,18 @@ returns-then-adds_nothing g c =
     let k = c.args.c in
     let us = c.as_slice.result.now in
     let vs = c.as_slice-2.result.now in
-    let a = size_of element c.self.inside.numbers.items c.args.self.now.coeffs (ap (λ r. r.coeffs) c.self.view_is) in
-    let b = size_of element c.other.inside.numbers.items c.args.other.now.coeffs (ap (λ r. r.coeffs) c.other.view_is) in
-    let same : length vs ≡ length us = ap length c.as_slice-2.ensures.value ∙ sym b ∙ sym c.requires.coeffs ∙ a ∙ sym (ap length c.as_slice.ensures.value) in
-    let mine : map element us ≡ c.args.self.now.coeffs = ap (map element) c.as_slice.ensures.value ∙ ap (λ r. r.coeffs) c.self.view_is in
-    let others : map element vs ≡ c.args.other.now.coeffs = ap (map element) c.as_slice-2.ensures.value ∙ ap (λ r. r.coeffs) c.other.view_is in
+    let a = size_of element c.self.inside.numbers c.args.self.now.coeffs (ap (λ r. r.coeffs) c.self.view_is) in
+    let b = size_of element c.other.inside.numbers c.args.other.now.coeffs (ap (λ r. r.coeffs) c.other.view_is) in
+    let same : length vs ≡ length us = ap length c.as_slice-2.ensures ∙ sym b ∙ sym c.requires.coeffs ∙ a ∙ sym (ap length c.as_slice.ensures) in
+    let mine : map element us ≡ c.args.self.now.coeffs = ap (map element) c.as_slice.ensures ∙ ap (λ r. r.coeffs) c.self.view_is in
+    let others : map element vs ≡ c.args.other.now.coeffs = ap (map element) c.as_slice-2.ensures ∙ ap (λ r. r.coeffs) c.other.view_is in
     let my_right : c.as_slice-3.result.now ≡ c.args.self.now.right = c.as_slice-3.ensures.value ∙ ap (λ r. r.right) c.self.view_is in
     let other_right : c.as_slice-4.result.now ≡ c.args.other.now.right = c.as_slice-4.ensures.value ∙ ap (λ r. r.right) c.other.view_is in
     let same_right : length c.as_slice-4.result.now ≡ length c.as_slice-3.result.now = ap length other_right ∙ sym c.requires.right ∙ sym (ap length my_right) in
     same_row _ _ _ _
     (sym mine ∙ ap (map element) (c.adds_nothing.ensures.first c.if-adds_nothing.true)
     ∙ elements_added g.met.F.Field.field g.met.F.Field.action g.met.F.Field.numbered g.met.F.Field.by_number us vs k c.known.ensures same
-    (All-same Number _ _ c.as_slice.ensures.value c.self.invariant.all) (All-same Number _ _ c.as_slice-2.ensures.value c.other.invariant.all)
+    (All-same Number _ _ c.as_slice.ensures c.self.invariant.all) (All-same Number _ _ c.as_slice-2.ensures c.other.invariant.all)
     ∙ ap₂ (λ x y. add_vectors add x (scale_vector mul k y)) mine others)
     (sym my_right ∙ c.adds_nothing.ensures.second c.if-adds_nothing.true
     ∙ scaled_sum_is (act k) c.as_slice-3.result.now c.as_slice-4.result.now same_right

@@ -17,16 +17,15 @@ invariant_of-self g c =
     let element = g.F.Field.element in
     let Number = IsNumber g.F.Field.IsElement g.F.Field.number element in
     let x = c.args.c in
-    let us = c.self.inside.numbers.items in
-    let vs = c.other.inside.numbers.items in
+    let us = c.self.inside.numbers in
+    let vs = c.other.inside.numbers in
     let a = size_of element us c.args.self.now.coeffs (ap (λ r. r.coeffs) c.self.view_is) in
     let b = size_of element vs c.args.other.now.coeffs (ap (λ r. r.coeffs) c.other.view_is) in
     let same : length vs ≡ length us = sym b ∙ sym c.requires.coeffs ∙ a in
     let from = c.min-self-inside.ensures in
     let end = c.max-self-inside.ensures in
     IsTouchedRow-same Number c.min-self-inside.result c.max-self-inside.result _ (scaled_sum (g.F.Field.act x) us vs)
-    (with_items_is c.self.inside.numbers c.add_both.new.first (c.add_both.auto.first ∙ c.as_mut_slice.ensures.len)
-    ∙ c.add_both.ensures.first ∙ ap₂ (λ y z. scaled_sum (g.F.Field.act x) y z) c.as_mut_slice.ensures.value c.as_slice.ensures.value)
+    (c.add_both.ensures.first ∙ ap (λ z. scaled_sum (g.F.Field.act x) us z) c.as_slice.ensures)
     (record {
       all = numbers_added g.met.F.Field.field g.met.F.Field.action g.met.F.Field.numbered g.met.F.Field.by_number us vs x c.known.ensures same c.self.invariant.all c.other.invariant.all;
       touched =
@@ -41,22 +40,19 @@ returns g c =
     let mul = g.F.Field.mul in
     let act = g.F.Field.act in
     let element = g.F.Field.element in
-    let Number = IsNumber g.F.Field.IsElement g.F.Field.number element in
     let k = c.args.c in
-    let a = size_of element c.self.inside.numbers.items c.args.self.now.coeffs (ap (λ r. r.coeffs) c.self.view_is) in
-    let b = size_of element c.other.inside.numbers.items c.args.other.now.coeffs (ap (λ r. r.coeffs) c.other.view_is) in
-    let same : length c.as_slice.result.now ≡ length c.as_mut_slice.result.now =
-    ap length c.as_slice.ensures.value ∙ sym b ∙ sym c.requires.coeffs ∙ a ∙ sym (ap length c.as_mut_slice.ensures.value) in
-    let mine : map element c.as_mut_slice.result.now ≡ c.args.self.now.coeffs = ap (map element) c.as_mut_slice.ensures.value ∙ ap (λ r. r.coeffs) c.self.view_is in
-    let others : map element c.as_slice.result.now ≡ c.args.other.now.coeffs = ap (map element) c.as_slice.ensures.value ∙ ap (λ r. r.coeffs) c.other.view_is in
-    let my_right : c.as_mut_slice-2.result.now ≡ c.args.self.now.right = c.as_mut_slice-2.ensures.value ∙ ap (λ r. r.right) c.self.view_is in
+    let us = c.self.inside.numbers in
+    let vs = c.other.inside.numbers in
+    let a = size_of element us c.args.self.now.coeffs (ap (λ r. r.coeffs) c.self.view_is) in
+    let b = size_of element vs c.args.other.now.coeffs (ap (λ r. r.coeffs) c.other.view_is) in
+    let same : length vs ≡ length us = sym b ∙ sym c.requires.coeffs ∙ a in
+    let my_right : c.as_mut_slice.result.now ≡ c.args.self.now.right = c.as_mut_slice.ensures.value ∙ ap (λ r. r.right) c.self.view_is in
     let other_right : c.as_slice-2.result.now ≡ c.args.other.now.right = c.as_slice-2.ensures.value ∙ ap (λ r. r.right) c.other.view_is in
-    let same_right : length c.as_slice-2.result.now ≡ length c.as_mut_slice-2.result.now = ap length other_right ∙ sym c.requires.right ∙ sym (ap length my_right) in
+    let same_right : length c.as_slice-2.result.now ≡ length c.as_mut_slice.result.now = ap length other_right ∙ sym c.requires.right ∙ sym (ap length my_right) in
     same_row _ _ _ _
-    (ap (map element) (with_items_is c.self.inside.numbers c.add_both.new.first (c.add_both.auto.first ∙ c.as_mut_slice.ensures.len) ∙ c.add_both.ensures.first)
-    ∙ elements_added g.met.F.Field.field g.met.F.Field.action g.met.F.Field.numbered g.met.F.Field.by_number c.as_mut_slice.result.now c.as_slice.result.now k c.known.ensures same
-    (All-same Number _ _ c.as_mut_slice.ensures.value c.self.invariant.all) (All-same Number _ _ c.as_slice.ensures.value c.other.invariant.all)
-    ∙ ap₂ (λ x y. add_vectors add x (scale_vector mul k y)) mine others)
-    (with_items_is c.self.inside.right c.add_both.new.second (c.add_both.auto.second ∙ c.as_mut_slice-2.ensures.len) ∙ c.add_both.ensures.second
-    ∙ scaled_sum_is (act k) c.as_mut_slice-2.result.now c.as_slice-2.result.now same_right
+    (ap (map element) (c.add_both.ensures.first ∙ ap (λ z. scaled_sum (act k) us z) c.as_slice.ensures)
+    ∙ elements_added g.met.F.Field.field g.met.F.Field.action g.met.F.Field.numbered g.met.F.Field.by_number us vs k c.known.ensures same c.self.invariant.all c.other.invariant.all
+    ∙ ap₂ (λ x y. add_vectors add x (scale_vector mul k y)) (ap (λ r. r.coeffs) c.self.view_is) (ap (λ r. r.coeffs) c.other.view_is))
+    (with_items_is c.self.inside.right c.add_both.new.second (c.add_both.auto.second ∙ c.as_mut_slice.ensures.len) ∙ c.add_both.ensures.second
+    ∙ scaled_sum_is (act k) c.as_mut_slice.result.now c.as_slice-2.result.now same_right
     ∙ ap₂ (λ x y. xor_bytes x (act_bytes act k y)) my_right other_right)

@@ -9,5 +9,5 @@ returns g c =
     let element = g.F.Field.element in
     let Number = IsNumber g.F.Field.IsElement g.F.Field.number element in
     another_found g.met.F.Field.field g.met.F.Field.action g.met.F.Field.numbered g.met.F.Field.by_number c.as_slice.result.now c.args.self.now.coeffs c.args.col
-    (ap (map element) c.as_slice.ensures.value ∙ ap (λ r. r.coeffs) c.self.view_is) (All-same Number _ _ c.as_slice.ensures.value c.self.invariant.all)
+    (ap (map element) c.as_slice.ensures ∙ ap (λ r. r.coeffs) c.self.view_is) (All-same Number _ _ c.as_slice.ensures c.self.invariant.all)
     c.another_nonzero.result c.another_nonzero.ensures

@@ -5,7 +5,7 @@ use Rattle.sc_echelon.proofs.equation.Equation.coeff.Goals.{then-i-self-via-then
 
 pub returns-then-i-self-clause-value : goal.returns-then-i-self-clause-value
 returns-then-i-self-clause-value g c =
-    let ns = c.self.inside.numbers.items in
+    let ns = c.self.inside.numbers in
     let i = c.args.i in
     let is = ap (λ r. r.coeffs) c.self.view_is in
     let size = size_of g.F.Field.element ns c.args.self.now.coeffs is in

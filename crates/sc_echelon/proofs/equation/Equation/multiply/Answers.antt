@@ -12,11 +12,10 @@ pub invariant_of-self : goal.invariant_of-self
 invariant_of-self g c =
     let act = g.F.Field.act in
     let x = c.args.c in
-    let ns = c.self.inside.numbers.items in
+    let ns = c.self.inside.numbers in
     let Number = IsNumber g.F.Field.IsElement g.F.Field.number g.F.Field.element in
     IsTouchedRow-same Number c.self.inside.from c.self.inside.end _ (map (act x) ns)
-    (with_items_is c.self.inside.numbers c.scale_between.new.xs (c.scale_between.auto.xs ∙ c.as_mut_slice.ensures.len)
-    ∙ c.scale_between.ensures ∙ ap₂ (λ y us. map (act y) us) c.new-by.ensures c.as_mut_slice.ensures.value)
+    (c.scale_between.ensures ∙ ap (λ y. map (act y) ns) c.new-by.ensures)
     (record {
       all = numbers_scaled g.met.F.Field.field g.met.F.Field.action g.met.F.Field.numbered g.met.F.Field.by_number ns x c.known.ensures c.self.invariant.all;
       touched = IsTouched-map (act x) ns c.self.inside.from c.self.inside.end (act_zero g.met.F.Field.field g.met.F.Field.action x c.known.ensures) c.self.invariant.touched;
@@ -26,15 +25,11 @@ pub returns : goal.returns
 returns g c =
     let act = g.F.Field.act in
     let mul = g.F.Field.mul in
-    let element = g.F.Field.element in
-    let Number = IsNumber g.F.Field.IsElement g.F.Field.number element in
+    let ns = c.self.inside.numbers in
     let by = c.new-by.ensures in
     same_row _ _ _ _
-    (ap (map element)
-    (with_items_is c.self.inside.numbers c.scale_between.new.xs (c.scale_between.auto.xs ∙ c.as_mut_slice.ensures.len)
-    ∙ c.scale_between.ensures ∙ ap (λ x. map (act x) c.as_mut_slice.result.now) by)
-    ∙ elements_scaled g.met.F.Field.field g.met.F.Field.action g.met.F.Field.numbered g.met.F.Field.by_number c.as_mut_slice.result.now c.args.c c.known.ensures
-    (All-same Number _ _ c.as_mut_slice.ensures.value c.self.invariant.all)
-    ∙ ap (scale_vector mul c.args.c) (ap (map element) c.as_mut_slice.ensures.value ∙ ap (λ r. r.coeffs) c.self.view_is))
-    (with_items_is c.self.inside.right c.scale.new.dst (c.scale.auto.dst ∙ c.as_mut_slice-2.ensures.len)
-    ∙ c.scale.ensures ∙ ap₂ (λ x bs. map (act x) bs) by (c.as_mut_slice-2.ensures.value ∙ ap (λ r. r.right) c.self.view_is))
+    (ap (map g.F.Field.element) (c.scale_between.ensures ∙ ap (λ x. map (act x) ns) by)
+    ∙ elements_scaled g.met.F.Field.field g.met.F.Field.action g.met.F.Field.numbered g.met.F.Field.by_number ns c.args.c c.known.ensures c.self.invariant.all
+    ∙ ap (scale_vector mul c.args.c) (ap (λ r. r.coeffs) c.self.view_is))
+    (with_items_is c.self.inside.right c.scale.new.dst (c.scale.auto.dst ∙ c.as_mut_slice.ensures.len)
+    ∙ c.scale.ensures ∙ ap₂ (λ x bs. map (act x) bs) by (c.as_mut_slice.ensures.value ∙ ap (λ r. r.right) c.self.view_is))

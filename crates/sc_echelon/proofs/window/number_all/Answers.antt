@@ -1,7 +1,7 @@
 use Rattle.std.proofs.Common.{set, subst, ◌∙◌, ap, arith}
 use Rattle.std.proofs.lemmas.List.Elements.{All-more}
 use Rattle.sc_echelon.proofs.NumberRows.{write_more}
-use Rattle.sc_echelon.proofs.equation.write_numbers.Goals as goal
+use Rattle.sc_echelon.proofs.window.number_all.Goals as goal
 
 pub loop-i-preserved : goal.loop-i-preserved
 loop-i-preserved g c = record {

@@ -1,5 +1,5 @@
 use Rattle.std.proofs.Common.{◌≡◌, ◌++◌, All, map, take, drop}
-use Rattle.sc_echelon.proofs.equation.write_numbers.Given as goal
+use Rattle.sc_echelon.proofs.window.number_all.Given as goal
 
 abbrev pub invariant-loop-i : goal.invariant-loop-i
 invariant-loop-i g l = record {
