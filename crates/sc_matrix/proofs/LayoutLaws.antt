@@ -1,9 +1,9 @@
 -- How the rows of a list that is cut into rows follow from the list.
 use Rattle.std.proofs.Common.{◌≡◌, ℕ, zero, suc, ◌+◌, ◌*◌, ◌<◌, ◌≤◌, List, [], ◌∷◌, ◌++◌, length, get_or, take, drop, set, replicate, All, refl, sym, ◌∙◌, ap, ap₂, ◌-◌, arith, Vec}
-use Rattle.std.proofs.lemmas.List.{drop-drop, length-take-le, length-drop, take-append-le, drop-append-le, drop-take, take-replicate, drop-replicate, take_all, drop-set-lt, drop-set-add, take-set-le, take-take, nil_from_length, get_or-take, get_or-drop, length-append, with_items_is}
+use Rattle.std.proofs.lemmas.List.{take_at, drop_at, drop-drop, length-take-le, length-drop, take-append-le, drop-append-le, drop-take, take-replicate, drop-replicate, take_all, drop-set-lt, drop-set-add, take-set-le, take-take, nil_from_length, get_or-take, get_or-drop, length-append, with_items_is}
 use Rattle.std.proofs.lemmas.List.Elements.{All-take, All-drop}
 use Rattle.std.proofs.lemmas.Nat.{row_fits}
-use Rattle.std.proofs.lemmas.Slice.{drop-put_mid, take-put_mid_below, between-put_mid}
+use Rattle.std.proofs.lemmas.Slice.{take-put_mid_below}
 use Rattle.std.proofs.Math.Seq.{take-set-lt}
 use borrow.Rule.Slice.PartMut.{put_mid}
 use Rattle.sc_matrix.specs.Matrix.{entry}
@@ -64,41 +64,32 @@ module _ {A : Type 0} where
       let d : drop c (replicate (suc n * c) z) ≡ replicate (n * c) z = drop-replicate c (suc n * c) z ∙ ap (λ k. replicate k z) m in
       rw (t, d, cut-replicate n c z) refl
 
-  -- two lists cut into rows, where ys has row r at a and the rows of xs before and behind
-  cut_differs : (n c : ℕ) (xs ys : List A) (a : ℕ) (r : List A) → a < n → take (a * c) ys ≡ take (a * c) xs → take c (drop (a * c) ys) ≡ r → drop (a * c + c) ys ≡ drop (a * c + c) xs → cut n c ys ≡ set (cut n c xs) a r
-  cut_differs zero c xs ys a r h below here above = absurd (omega arith)
-  cut_differs (suc n) c xs ys zero r h below here above =
-      let start : 0 * c ≡ 0 = omega arith in
-      let end : 0 * c + c ≡ c = omega arith in
-      ap₂ (λ (u : List A) (us : List (List A)). u ∷ us) (rw start at here) (ap (cut n c) (rw end at above))
-  cut_differs (suc n) c xs ys (suc a) r h below here above =
-      let start : suc a * c ≡ c + a * c = omega arith in
-      let end : suc a * c + c ≡ c + (a * c + c) = omega arith in
-      let first : take c ys ≡ take c xs = sym (take-take c (suc a * c) ys (omega arith)) ∙ ap (take c) below ∙ take-take c (suc a * c) xs (omega arith) in
-      let low : take (a * c) (drop c ys) ≡ take (a * c) (drop c xs) = sym (drop-take c (a * c) ys) ∙ ap (drop c) (rw start at below) ∙ drop-take c (a * c) xs in
-      let high : drop (a * c + c) (drop c ys) ≡ drop (a * c + c) (drop c xs) = drop-drop (a * c + c) c ys ∙ (rw end at above) ∙ sym (drop-drop (a * c + c) c xs) in
-      ap₂ (λ (u : List A) (us : List (List A)). u ∷ us) first (cut_differs n c (drop c xs) (drop c ys) a r (omega arith) low (ap (take c) (drop-drop (a * c) c ys) ∙ (rw start at here)) high)
-
   -- a write to row a
-  pub cut-put_mid : (n c : ℕ) (xs : List A) (a : ℕ) (ys : List A) → length xs ≡ n * c → a < n → length ys ≡ c → cut n c (put_mid (a * c) c xs ys) ≡ set (cut n c xs) a ys
-  cut-put_mid n c xs a ys e h f =
-      let w = row_within n c a h in
-      let m : (a * c + c) - a * c ≡ c = omega arith in
-      let b : take ((a * c + c) - a * c) (drop (a * c) (put_mid (a * c) c xs ys)) ≡ ys =
-      between-put_mid (a * c) c xs ys (a * c + c) (omega arith) (f ∙ sym m) in
-      cut_differs n c xs (put_mid (a * c) c xs ys) a ys h
-      (take-put_mid_below (a * c) c xs ys (a * c) (omega arith) (omega arith))
-      (rw m at b)
-      (drop-put_mid (a * c) c xs ys (a * c + c) (omega arith) (omega arith) f)
+  pub cut-put_mid : (n c : ℕ) (xs : List A) (a : ℕ) (ys : List A) → length xs ≡ n * c → a < n → length ys ≡ c
+      → cut n c (put_mid (a * c) c xs ys) ≡ set (cut n c xs) a ys
+  cut-put_mid zero c xs a ys e h f = absurd (omega arith)
+  cut-put_mid (suc n) c xs zero ys e h f =
+      let z : 0 * c ≡ 0 = omega arith in
+      rw (z, take_at ys (drop c xs) c f, drop_at ys (drop c xs) c f) refl
+  cut-put_mid (suc n) c xs (suc a) ys e h f =
+      let w = row_within n c a (omega arith) in
+      let s : suc a * c ≡ c + a * c = omega arith in
+      let l = length-take-le (c + a * c) xs (omega arith) in
+      let first : take c (put_mid (suc a * c) c xs ys) ≡ take c xs = take-put_mid_below (suc a * c) c xs ys c (omega arith) (omega arith) in
+      let rest : drop c (put_mid (suc a * c) c xs ys) ≡ put_mid (a * c) c (drop c xs) ys =
+      rw (s, drop-append-le c (take (c + a * c) xs) (ys ++ drop c (drop (c + a * c) xs)) (omega arith), drop-take c (a * c) xs, drop-drop (a * c) c xs) refl in
+      ap₂ (λ (u : List A) (us : List (List A)). u ∷ us) first (ap (cut n c) rest ∙ cut-put_mid n c (drop c xs) a ys (omega (arith, length-drop c xs)) (omega arith) f)
 
   -- a write to the entry at row i and column j
   pub cut-set : (n c : ℕ) (xs : List A) (i j : ℕ) (v : A) → i < n → j < c → set (cut n c xs) i (set (get_or (cut n c xs) i []) j v) ≡ cut n c (set xs (i * c + j) v)
-  cut-set n c xs i j v h k =
-      sym
-      (cut_differs n c xs (set xs (i * c + j) v) i (set (get_or (cut n c xs) i []) j v) h
-      (take-set-le (i * c) xs (i * c + j) v (omega arith))
-      (rw (drop-set-add (i * c) xs j v, take-set-lt c (drop (i * c) xs) j v k, get_or-cut n c xs i [] h) refl)
-      (drop-set-lt (i * c + c) xs (i * c + j) v (omega arith)))
+  cut-set zero c xs i j v h k = absurd (omega arith)
+  cut-set (suc n) c xs zero j v h k =
+      let z : 0 * c + j ≡ j = omega arith in
+      rw (z, take-set-lt c xs j v k, drop-set-lt c xs j v k) refl
+  cut-set (suc n) c xs (suc i) j v h k =
+      let s : suc i * c + j ≡ c + (i * c + j) = omega arith in
+      rw (s, take-set-le c xs (c + (i * c + j)) v (omega arith), drop-set-add c xs (i * c + j) v)
+      (ap (λ (us : List (List A)). take c xs ∷ us) (cut-set n c (drop c xs) i j v (omega arith) k))
 
   -- the first k rows
   pub cut-take : (n k c : ℕ) (xs : List A) → k ≤ n → take k (cut n c xs) ≡ cut k c (take (k * c) xs)
