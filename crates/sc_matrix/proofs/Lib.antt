@@ -16,7 +16,7 @@
 --                  kernel_rows, row_space-kernel, kernel-one_row_space, kernel-stacked, add_row_from-zeros
 --   NumberLaws     rows of numbers: number_module, elements-add, elements-times, element-zero_iff
 --
--- The other files say how the rows in memory keep up with these definitions. `rows_steps` of LayoutSteps and `matrix_steps` of
+-- The other files say how the rows in memory keep up with these definitions. `rows_steps` of ByteSteps and `matrix_steps` of
 -- MatrixSteps are what the search takes for the functions of src/rows.rt and src/matrix.rt.
 pub mod VectorLaws
 pub mod ModuleLaws
@@ -29,6 +29,5 @@ pub mod LawRecords
 pub mod NumberLaws
 pub mod EqualLaws
 pub mod LayoutLaws
-pub mod LayoutSteps
 pub mod ByteSteps
 pub mod MatrixSteps

@@ -17,7 +17,7 @@ pub(crate) struct Rows {
     ghost small: { count * width ≤ most_entries },
 }
 
-#[tactic(auto, using(crate::proofs::LayoutSteps::rows_steps))]
+#[tactic(auto, using(crate::proofs::ByteSteps::rows_steps))]
 impl Rows {
     ghost use Rattle.std.specs.Prelude.{◌≡◌, ◌≢◌, ◌+◌, ◌*◌, ◌^◌, ◌<◌, ◌≤◌, ◌++◌, ℕ, map, take, drop, IfOk, OnOk, OnErr, MatchOption, All, length, bit_xor, slice_index_or};
     ghost use Rattle.sc_field.specs.Field.{IsNumber};

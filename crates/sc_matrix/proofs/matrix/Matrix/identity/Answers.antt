@@ -4,7 +4,7 @@ use Rattle.std.proofs.lemmas.Grind.{common_steps}
 use Rattle.std.proofs.lemmas.List.FromFn.{length-range_with_len, get_or-range_with_len}
 use Rattle.sc_matrix.specs.Vector.{unit_vector}
 use Rattle.sc_matrix.specs.Matrix.{Matrix}
-use Rattle.sc_matrix.proofs.LayoutSteps.{mapped_all}
+use Rattle.sc_matrix.proofs.ByteSteps.{mapped_all}
 use Rattle.sc_matrix.proofs.matrix.Matrix.identity.Goals as goal
 
 pub loop-i-preserved : goal.loop-i-preserved

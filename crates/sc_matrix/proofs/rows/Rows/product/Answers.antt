@@ -4,7 +4,7 @@ use Rattle.sc_matrix.specs.Matrix.{Matrix}
 use Rattle.sc_matrix.specs.Numbers.{elements_of}
 use Rattle.sc_matrix.specs.Rows.{table}
 use Rattle.sc_matrix.proofs.MatrixSteps.{map-row}
-use Rattle.sc_matrix.proofs.LayoutSteps.{rows_steps, sum_begins, mapped_all}
+use Rattle.sc_matrix.proofs.ByteSteps.{rows_steps, sum_begins, mapped_all}
 use Rattle.sc_matrix.proofs.rows.Rows.product.Goals as goal
 
 pub loop-i-preserved : goal.loop-i-preserved
