@@ -23,9 +23,7 @@ pub mod ModuleLaws
 pub mod Modules
 pub mod MatrixLaws
 pub mod ProductLaws
-pub mod TransposeLaws
 pub mod RowSpaceLaws
-pub mod LawRecords
 pub mod NumberLaws
 pub mod EqualLaws
 pub mod LayoutLaws

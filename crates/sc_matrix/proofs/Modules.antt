@@ -6,9 +6,10 @@ use Rattle.std.proofs.lemmas.List.{map-id}
 use Rattle.sc_field.specs.Field.{IsField, IsAction}
 use Rattle.sc_field.specs.FieldLemmas.{add_mul, zero_mul, one_mul}
 use Rattle.sc_matrix.specs.Module.{IsModule, IsLinear, IsByte}
+use Rattle.sc_matrix.specs.Laws.{AreDotLaws}
 use Rattle.sc_matrix.specs.Vector.{IsVector, add_vectors, scale_vector, dot, combination}
 use Rattle.sc_matrix.proofs.VectorLaws.{add_vectors-none, head, tail, map_same, map_const, map-plus, map-map, map-add_vectors, IsVector-replicate, IsVector-add_vectors, IsVector-map}
-use Rattle.sc_matrix.proofs.ModuleLaws.{value-dot, linear-dot, dot_zero_left, dot-add_left, dot-scale_left}
+use Rattle.sc_matrix.proofs.ModuleLaws.{value-dot, linear-dot, dot_zero_left, dot-add_left, dot-scale_left, dot-add_right, dot-scale_right, dot-append, dot-zeros_back, dot-zeros_front, dot-picked, dot_unit}
 
 module _ {A : Type 0} {IsElement : A → Type 0} {zero one : A} {add sub mul : A → A → A} {inv : A → A} (laws : IsField IsElement zero one add sub mul inv) where
   pub field_module : IsModule IsElement zero one add mul IsElement zero add mul
@@ -85,6 +86,21 @@ module _ {C A : Type 0} {IsElement : C → Type 0} {zero one : C} {add sub mul :
 
   pub IsVector-combination : {p q : ℕ} (n : ℕ) (cs : List C) (vs : List (List A)) → IsVector IsElement p cs → IsVector (IsVector IsValue n) q vs → IsVector IsValue n (combination none plus times n cs vs)
   IsVector-combination n cs vs hc hv = value-dot laws (vector_module ml n) cs vs hc hv
+
+  pub dot_laws : AreDotLaws IsElement zero one add mul IsValue none plus times
+  dot_laws = record {
+    value = λ p q cs vs hc hv. value-dot laws ml cs vs hc hv;
+    add_left = λ p q cs ds vs hc hd hv. dot-add_left laws ml cs ds vs hc hd hv;
+    scale_left = λ p q k cs vs hk hc hv. dot-scale_left laws ml k cs vs hk hc hv;
+    add_right = λ p q cs vs ws hc hv hw. dot-add_right laws ml cs vs ws hc hv hw;
+    scale_right = λ p q k cs vs hk hc hv. dot-scale_right laws ml k cs vs hk hc hv;
+    unit = λ n i vs hv h. dot_unit laws ml n i vs hv h;
+    append = λ p q r cs ds vs ws hc hd hv hw. dot-append laws ml cs ds vs ws (hc.width ∙ sym hv.width) hc hd hv hw;
+    zeros_back = λ p q n cs vs hc hv. dot-zeros_back laws ml n cs vs hc hv;
+    zeros_front = λ p q n cs vs hc hv. dot-zeros_front laws ml n cs vs hc hv;
+    selection = λ p q flags cs vs hc hv. dot-picked laws ml flags cs vs hc hv;
+    of_combination = λ p m n q cs rows vs hc hr hv. dot-combination n cs rows vs hc hr hv;
+  }
 
 -- bytes alone: no premise on their size
 pub vectors_none-bytes : (n : ℕ) (vs : List ℕ) → length vs ≡ n → add_vectors bit_xor vs (replicate n 0) ≡ vs

@@ -10,12 +10,13 @@ use Rattle.sc_field.specs.FieldLemmas.{mul_zero}
 use Rattle.sc_matrix.specs.Module.{IsModule}
 use Rattle.sc_matrix.specs.Vector.{IsVector, add_vectors, scale_vector, dot, combination, unit_vector}
 use Rattle.sc_matrix.specs.Matrix.{Matrix, IsMatrix, IsInKernel, row, row_count, with_row, apply, swap_rows, scale_row, add_row, add_row_from, entry, stacked}
+use Rattle.sc_matrix.specs.Laws.{AreKernelLaws, AreRowSpaceLaws}
 use Rattle.sc_matrix.specs.RowSpace.{IsSubspace, IsInRowSpace, RowsAreIn, HaveOneRowSpace}
 use Rattle.sc_matrix.proofs.VectorLaws.{map_const, head, tail, vector_of}
 use Rattle.sc_matrix.proofs.ModuleLaws.{dot_zero_left, dot_zero_right, dot-add_left, dot-scale_left, dot_unit, inv_times, plus_times_back, times_none}
 use Rattle.sc_matrix.proofs.Modules.{field_module, vector_module, dot-combination}
 use Rattle.sc_matrix.proofs.MatrixLaws.{matrix_rows, All-swap, IsMatrix-with_row, IsMatrix-swap_rows}
-use Rattle.sc_matrix.proofs.ProductLaws.{same_matrix, IsVector-unit, apply-add_vectors, apply-scale_vector, apply_zero_vector}
+use Rattle.sc_matrix.proofs.ProductLaws.{same_matrix, IsVector-unit, product_laws}
 
 -- two entries exchanged, and exchanged again
 pub swap-swap : {X : Type 0} (xs : List X) (a b : ℕ) (d : X) → a < length xs → b < length xs → swap (swap xs a b) a b ≡ xs
@@ -44,49 +45,7 @@ module _ {C A : Type 0} (none : A) (plus : A → A → A) (times : C → A → A
     λ all. map_const (λ (r : List C). dot none plus times r v) none m.rows (λ r e. e) (vector_of m.rows all),
   )
 
-  -- the kernel of stacked matrices is what their kernels have in common
-  pub kernel-stacked : (a b : Matrix C) (v : List A) → a.cols ≡ b.cols → IsInKernel none plus times (stacked a b) v ↔ (IsInKernel none plus times a v × IsInKernel none plus times b v)
-  kernel-stacked a b v e =
-      let n = length-append a.rows b.rows in (
-        λ h.
-            let all = (kernel_rows (stacked a b) v).0 h.zeros in (
-              record { width = h.width; zeros = (kernel_rows a v).1 (λ k d lt. subst (λ (r : List C). dot none plus times r v ≡ none) (get_or_append_left a.rows b.rows d k lt) (all k d (omega arith))) },
-              record {
-                width = h.width ∙ e;
-                zeros = (kernel_rows b v).1 (λ k d lt. subst (λ (r : List C). dot none plus times r v ≡ none) (get_or-append-add a.rows b.rows k d) (all (length a.rows + k) d (omega arith)));
-              },
-            ),
-        λ h. record {
-          width = h.0.width;
-          zeros = (kernel_rows (stacked a b) v).1 (All-append (λ (r : List C). dot none plus times r v ≡ none) a.rows b.rows ((kernel_rows a v).0 h.0.zeros) ((kernel_rows b v).0 h.1.zeros));
-        },
-      )
-
 module _ {C A : Type 0} {IsElement : C → Type 0} {zero one : C} {add sub mul : C → C → C} {inv : C → C} {IsValue : A → Type 0} {none : A} {plus : A → A → A} {times : C → A → A} (laws : IsField IsElement zero one add sub mul inv) (ml : IsModule IsElement zero one add mul IsValue none plus times) where
-  pub kernel_subspace : (m : Matrix C) → IsMatrix IsElement m → IsSubspace IsElement (replicate m.cols none) (add_vectors plus) (scale_vector times) (λ (v : List A). IsVector IsValue m.cols v × IsInKernel none plus times m v)
-  kernel_subspace m hm =
-      let vm = vector_module ml m.cols in
-      let rows = vector_module ml (row_count m) in
-      record {
-        has_none = (vm.none_value, record { width = vm.none_value.width; zeros = apply_zero_vector laws ml m m.cols hm });
-        has_plus = λ u v hu hv.
-            let s = vm.plus_value u v hu.0 hv.0 in (
-              s,
-              record {
-                width = s.width;
-                zeros = apply-add_vectors laws ml m u v hm hu.0 hv.0 ∙ ap₂ (add_vectors plus) hu.1.zeros hv.1.zeros ∙ rows.plus_none (replicate (row_count m) none) rows.none_value;
-              },
-            );
-        has_times = λ x v hx hv.
-            let s = vm.times_value x v hx hv.0 in (
-              s,
-              record {
-                width = s.width;
-                zeros = apply-scale_vector laws ml m x v hm hx hv.0 ∙ ap (scale_vector times x) hv.1.zeros ∙ times_none laws rows x hx;
-              },
-            );
-      }
-
   -- the dot product of the row space and the kernel is zero
   pub row_space-kernel : (m : Matrix C) (r : List C) (v : List A) → IsMatrix IsElement m → IsInRowSpace IsElement zero add mul m r → IsVector IsValue m.cols v → IsInKernel none plus times m v → dot none plus times r v ≡ none
   row_space-kernel m r v hm hr hv hk =
@@ -100,12 +59,42 @@ module _ {C A : Type 0} {IsElement : C → Type 0} {zero one : C} {add sub mul :
     zeros = (kernel_rows none plus times k v).1 (λ i d h. row_space-kernel m (get_or k.rows i d) v hm (within.rows i d h) hv hk);
   }
 
-  -- matrices of one row space have one kernel
-  pub kernel-one_row_space : (k m : Matrix C) (v : List A) → IsMatrix IsElement k → IsMatrix IsElement m → HaveOneRowSpace IsElement zero add mul k m → IsVector IsValue m.cols v → IsInKernel none plus times k v ↔ IsInKernel none plus times m v
-  kernel-one_row_space k m v hk hm one_space hv = (
-    λ h. kernel-rows_in m k v hk one_space.second_in (subst (λ (n : ℕ). IsVector IsValue n v) (sym one_space.first_in.cols) hv) h,
-    λ h. kernel-rows_in k m v hm one_space.first_in hv h,
-  )
+  pub kernel_laws : AreKernelLaws IsElement zero one add mul IsValue none plus times
+  kernel_laws = record {
+    subspace = λ m hm.
+        let vm = vector_module ml m.cols in
+        let rows = vector_module ml (row_count m) in
+        let products = product_laws laws ml in
+        record {
+          has_none = (vm.none_value, record {
+            width = vm.none_value.width;
+            zeros = map_const _ none m.rows (λ r hr. dot_zero_right laws ml m.cols r hr) (matrix_rows hm);
+          });
+          has_plus = λ u v hu hv.
+              let s = vm.plus_value u v hu.0 hv.0 in
+              (s, record { width = s.width; zeros = products.vector_sum m.cols m u v hm hu.0 hv.0 ∙ ap₂ (add_vectors plus) hu.1.zeros hv.1.zeros ∙ rows.plus_none _ rows.none_value });
+          has_times = λ x v hx hv.
+              let s = vm.times_value x v hx hv.0 in
+              (s, record { width = s.width; zeros = products.vector_multiple m.cols m x v hm hx hv.0 ∙ ap (scale_vector times x) hv.1.zeros ∙ times_none laws rows x hx });
+        };
+    orthogonal = row_space-kernel;
+    of_stack = λ a b v e. (
+      λ h.
+          let all = (kernel_rows none plus times (stacked a b) v).0 h.zeros in
+          let n = length-append a.rows b.rows in (
+            record { width = h.width; zeros = (kernel_rows none plus times a v).1 (λ k d lt. rw (← (get_or_append_left a.rows b.rows d k lt)) (all k d (omega arith))) },
+            record { width = h.width ∙ e; zeros = (kernel_rows none plus times b v).1 (λ k d lt. rw (← (get_or-append-add a.rows b.rows k d)) (all (length a.rows + k) d (omega arith))) },
+          ),
+      λ h. record {
+        width = h.0.width;
+        zeros = (kernel_rows none plus times (stacked a b) v).1 (All-append (λ (r : List C). dot none plus times r v ≡ none) a.rows b.rows ((kernel_rows none plus times a v).0 h.0.zeros) ((kernel_rows none plus times b v).0 h.1.zeros));
+      },
+    );
+    one_row_space = λ k m v hk hm one_space hv. (
+      λ h. kernel-rows_in m k v hk one_space.second_in (rw one_space.first_in.cols hv) h,
+      λ h. kernel-rows_in k m v hm one_space.first_in hv h,
+    );
+  }
 
 -- ---- the row space
 module _ {A : Type 0} {IsElement : A → Type 0} {zero one : A} {add sub mul : A → A → A} {inv : A → A} (laws : IsField IsElement zero one add sub mul inv) where
@@ -200,22 +189,12 @@ module _ {A : Type 0} {IsElement : A → Type 0} {zero one : A} {add sub mul : A
       ap₂ (λ (x : A) (xs : List A). x ∷ xs) (sym (ap (λ (x : A). add u (mul c x)) (zeros 0 (omega arith)) ∙ ap (add u) (mul_zero laws c hc) ∙ laws.add_zero u (head hu)))
       (added_from start us vs c hc (tail hu) (tail hv) (λ j h. zeros (suc j) (omega arith)))
 
-  -- where row b is zero before a column, its multiple may be added from there on
-  pub add_row_from-zeros : (m : Matrix A) (a b : ℕ) (c : A) (start : ℕ) → IsMatrix IsElement m → IsElement c → a < row_count m → b < row_count m → start ≤ m.cols → ((j : ℕ) → j < start → entry zero m b j ≡ zero) → add_row_from add mul m a c b start ≡ add_row add mul m a c b
-  add_row_from-zeros m a b c start hm hc ha hb le zeros = ap (with_row m a) (added_from start (row m a) (row m b) c hc (hm.vectors a [] ha) (hm.vectors b [] hb) zeros)
-
   -- so each keeps the row space
   undone : {k m n : Matrix A} → RowsAreIn IsElement zero add mul k m → n ≡ m → RowsAreIn IsElement zero add mul n k → HaveOneRowSpace IsElement zero add mul k m
   undone {k = k} within back within_back = record { first_in = within; second_in = subst (λ (n : Matrix A). RowsAreIn IsElement zero add mul n k) back within_back }
 
   pub row_space-swap_rows : (m : Matrix A) (a b : ℕ) → IsMatrix IsElement m → a < row_count m → b < row_count m → HaveOneRowSpace IsElement zero add mul (swap_rows m a b) m
   row_space-swap_rows m a b hm ha hb = undone (swapped m a b hm) (swap_rows-swap_rows m a b ha hb) (swapped (swap_rows m a b) a b (IsMatrix-swap_rows m a b hm))
-
-  pub row_space-scale_row : (m : Matrix A) (a : ℕ) (c : A) → IsMatrix IsElement m → IsElement c → c ≢ zero → a < row_count m → HaveOneRowSpace IsElement zero add mul (scale_row mul m a c) m
-  row_space-scale_row m a c hm hc ne ha =
-      let n = length-set m.rows a (scale_vector mul c (row m a)) in
-      let hs = IsMatrix-with_row m a _ hm ((vectors m.cols).times_value c (row m a) hc (hm.vectors a [] ha)) in
-      undone (scaled m a c hm hc ha) (scale_row-inverse m a c hm hc ne ha) (scaled (scale_row mul m a c) a (inv c) hs (laws.inv_element c hc ne) (omega arith))
 
   pub row_space-add_row : (m : Matrix A) (a b : ℕ) (c : A) → IsMatrix IsElement m → IsElement c → a < row_count m → b < row_count m → a ≢ b → HaveOneRowSpace IsElement zero add mul (add_row add mul m a c b) m
   row_space-add_row m a b c hm hc ha hb ne =
@@ -224,3 +203,20 @@ module _ {A : Type 0} {IsElement : A → Type 0} {zero one : A} {add sub mul : A
       let hs = IsMatrix-with_row m a _ hm (v.plus_value (row m a) _ (hm.vectors a [] ha) (v.times_value c (row m b) hc (hm.vectors b [] hb))) in
       undone (added m a b c hm hc ha hb) (add_row-negative m a b c hm hc ha hb ne)
       (added (add_row add mul m a c b) a b (sub zero c) hs (laws.sub_element zero c laws.zero_element hc) (omega arith) (omega arith))
+
+  pub row_space_laws : AreRowSpaceLaws IsElement zero one add sub mul inv
+  row_space_laws = record {
+    subspace = row_space_subspace;
+    has_row = row-in_row_space;
+    within = row_space-rows_in;
+    swap = row_space-swap_rows;
+    scale = λ m a c hm hc ne ha.
+        let n = length-set m.rows a (scale_vector mul c (row m a)) in
+        let hs = IsMatrix-with_row m a _ hm ((vectors m.cols).times_value c (row m a) hc (hm.vectors a [] ha)) in
+        undone (scaled m a c hm hc ha) (scale_row-inverse m a c hm hc ne ha) (scaled (scale_row mul m a c) a (inv c) hs (laws.inv_element c hc ne) (omega arith));
+    sum = row_space-add_row;
+    sum_from = λ m a b c start hm hc ha hb le zeros. ap (with_row m a) (added_from start (row m a) (row m b) c hc (hm.vectors a [] ha) (hm.vectors b [] hb) zeros);
+    swap_back = swap_rows-swap_rows;
+    scale_back = scale_row-inverse;
+    sum_back = add_row-negative;
+  }

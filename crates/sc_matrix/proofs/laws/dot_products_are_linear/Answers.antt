@@ -1,5 +1,4 @@
-use Rattle.sc_matrix.proofs.Modules.{field_module, byte_module}
-use Rattle.sc_matrix.proofs.LawRecords.{dot_laws}
+use Rattle.sc_matrix.proofs.Modules.{field_module, byte_module, dot_laws}
 use Rattle.sc_matrix.proofs.laws.dot_products_are_linear.Goals as goal
 
 pub returns : goal.returns

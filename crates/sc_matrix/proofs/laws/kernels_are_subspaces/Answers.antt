@@ -1,5 +1,5 @@
 use Rattle.sc_matrix.proofs.Modules.{field_module, byte_module}
-use Rattle.sc_matrix.proofs.LawRecords.{kernel_laws}
+use Rattle.sc_matrix.proofs.RowSpaceLaws.{kernel_laws}
 use Rattle.sc_matrix.proofs.laws.kernels_are_subspaces.Goals as goal
 
 pub returns : goal.returns

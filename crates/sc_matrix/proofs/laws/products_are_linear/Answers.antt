@@ -1,5 +1,5 @@
 use Rattle.sc_matrix.proofs.Modules.{field_module, byte_module}
-use Rattle.sc_matrix.proofs.LawRecords.{product_laws}
+use Rattle.sc_matrix.proofs.ProductLaws.{product_laws}
 use Rattle.sc_matrix.proofs.laws.products_are_linear.Goals as goal
 
 pub returns : goal.returns

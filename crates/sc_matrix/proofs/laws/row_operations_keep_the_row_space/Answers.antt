@@ -1,4 +1,4 @@
-use Rattle.sc_matrix.proofs.LawRecords.{row_space_laws}
+use Rattle.sc_matrix.proofs.RowSpaceLaws.{row_space_laws}
 use Rattle.sc_matrix.proofs.laws.row_operations_keep_the_row_space.Goals as goal
 
 pub returns : goal.returns

@@ -1,4 +1,4 @@
-use Rattle.sc_matrix.proofs.LawRecords.{transpose_laws}
+use Rattle.sc_matrix.proofs.ProductLaws.{transpose_laws}
 use Rattle.sc_matrix.proofs.laws.transposes_turn_products.Goals as goal
 
 pub returns : goal.returns
