@@ -28,4 +28,3 @@ pub mod NumberLaws
 pub mod EqualLaws
 pub mod LayoutLaws
 pub mod ByteSteps
-pub mod MatrixSteps

@@ -3,12 +3,14 @@ use Rattle.std.proofs.Common.{◌≡◌, ℕ, zero as naught, suc, ◌<◌, List
 use Rattle.std.specs.List.{range_with_len}
 use Rattle.std.proofs.lemmas.Bool.{cases_lt}
 use Rattle.std.proofs.Math.ListN.{get_or-map}
-use Rattle.std.proofs.lemmas.List.{length-map, map-set, get_or_past}
+use Rattle.std.proofs.lemmas.List.{length-map, map-set, get_or_past, take-map, map_push}
+use Rattle.std.proofs.lemmas.Grind.{common_steps}
 use Rattle.std.proofs.lemmas.List.Elements.{All-nil, All-head, All-map, All-set}
 use Rattle.std.proofs.lemmas.List.FromFn.{length-range_with_len, get_or-range_with_len}
 use Rattle.sc_matrix.specs.Vector.{IsVector}
 use Rattle.sc_matrix.specs.Matrix.{Matrix, IsMatrix, row_count, row, entry, column, with_row, transpose, submatrix, swap_rows}
 use Rattle.sc_matrix.specs.Layout.{map_matrix}
+use Rattle.sc_matrix.proofs.LayoutLaws.{length-cut}
 use Rattle.sc_matrix.proofs.VectorLaws.{IsVector-map, map-map, map_ext, entry_at}
 
 -- an entry of a list, also past the end, and two entries exchanged
@@ -83,16 +85,22 @@ module _ {A B : Type 0} (f : A → B) where
   pub row-map : (m : Matrix A) (i : ℕ) → row (map_matrix f m) i ≡ map f (row m i)
   row-map m i = get_or-map (map f) m.rows i []
 
-  pub entry-map : (m : Matrix A) (i j : ℕ) (d : A) (e : B) → f d ≡ e → entry e (map_matrix f m) i j ≡ f (entry d m i j)
-  entry-map m i j d e h = ap (λ (r : List B). get_or r j e) (row-map m i) ∙ get_or-map_all (row m i) j d e h
-
   pub map-transpose : (m : Matrix A) (d : A) (e : B) → f d ≡ e → map_matrix f (transpose d m) ≡ transpose e (map_matrix f m)
   map-transpose m d e h =
       ap₂ (λ (c : ℕ) (rows : List (List B)). let r : Matrix B = record { cols = c; rows = rows } in r) (sym (row_count-map m))
-      (map-map (map f) (column d m) (range_with_len 0 m.cols) ∙ map_ext _ _ (range_with_len 0 m.cols) (λ j.
-      map-map f (λ (r : List A). get_or r j d) m.rows ∙ map_ext _ _ m.rows (λ r. sym (get_or-map_all r j d e h)) ∙ sym (map-map (λ (r : List B). get_or r j e) (map f) m.rows)))
+      (map-map _ _ _ ∙ map_ext _ _ (range_with_len 0 m.cols) (λ j. rw (← h) (simp (map-map, get_or-map f))))
 
   pub map-submatrix : (m : Matrix A) (is js : List ℕ) (d : A) (e : B) → f d ≡ e → map_matrix f (submatrix d m is js) ≡ submatrix e (map_matrix f m) is js
   map-submatrix m is js d e h =
       ap (λ (rows : List (List B)). let r : Matrix B = record { cols = length js; rows = rows } in r)
-      (map-map (map f) (λ (i : ℕ). map (entry d m i) js) is ∙ map_ext _ _ is (λ i. map-map f (entry d m i) js ∙ map_ext _ _ js (λ j. sym (entry-map m i j d e h))))
+      (map-map _ _ is ∙ map_ext _ _ is (λ i. map-map _ _ js ∙ map_ext _ _ js (λ j. rw (← h) (simp (row-map m, get_or-map f)))))
+
+  -- ---- in the form that the search takes for the functions of src/matrix.rt
+  pub map-row : (rows : List (List A)) (i : ℕ) → get_or (map (map f) rows) i [] ≡ map f (get_or rows i [])
+  map-row rows i = get_or-map (map f) rows i []
+
+  pub map-swap : (xs : List A) (a b : ℕ) → map f (swap xs a b) ≡ swap (map f xs) a b
+  map-swap [] a b = refl
+  map-swap (x ∷ xs) a b = simp (map-set, ← (get_or-map f (x ∷ xs) a x), ← (get_or-map f (x ∷ xs) b x))
+
+pub ruleset matrix_steps = (common_steps, map-set, take-map, map_push, map-replicate, length-map, length-cut, map-row, map-swap, All-swap)

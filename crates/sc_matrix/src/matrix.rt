@@ -37,7 +37,7 @@ impl<F: Field> Model for Matrix<F> {
     ghost invariant = { λ m. AreNumbers F.IsElement F.number F.element m.numbers };
 }
 
-#[tactic(auto, using(crate::proofs::MatrixSteps::matrix_steps))]
+#[tactic(auto, using(crate::proofs::MatrixLaws::matrix_steps))]
 impl<F: Field> Matrix<F> {
     /// The zero matrix of `rows` rows and `cols` columns.
     pub fn zeros(alloc: Global, rows: usize, cols: usize) -> Result<Matrix<F>, NoMemory>

@@ -4,7 +4,7 @@ use Rattle.sc_matrix.specs.Matrix.{row, row_count}
 use Rattle.sc_matrix.specs.Rows.{table}
 use Rattle.sc_matrix.proofs.VectorLaws.{IsVector-set}
 use Rattle.sc_matrix.proofs.MatrixLaws.{IsMatrix-with_row}
-use Rattle.sc_matrix.proofs.MatrixSteps.{matrix_steps}
+use Rattle.sc_matrix.proofs.MatrixLaws.{matrix_steps}
 use Rattle.sc_matrix.proofs.matrix.Matrix.set.Goals as goal
 
 pub invariant_of-self : goal.invariant_of-self

@@ -1,6 +1,6 @@
 use Rattle.std.proofs.Common.{arith}
 use Rattle.sc_matrix.proofs.NumberLaws.{element_zero}
-use Rattle.sc_matrix.proofs.MatrixSteps.{matrix_steps}
+use Rattle.sc_matrix.proofs.MatrixLaws.{matrix_steps}
 use Rattle.sc_matrix.proofs.matrix.Matrix.zeros.Goals as goal
 
 pub returns : goal.returns

@@ -3,7 +3,7 @@ use Rattle.sc_matrix.specs.Vector.{combination}
 use Rattle.sc_matrix.specs.Matrix.{Matrix}
 use Rattle.sc_matrix.specs.Numbers.{elements_of}
 use Rattle.sc_matrix.specs.Rows.{table}
-use Rattle.sc_matrix.proofs.MatrixSteps.{map-row}
+use Rattle.sc_matrix.proofs.MatrixLaws.{map-row}
 use Rattle.sc_matrix.proofs.ByteSteps.{rows_steps, sum_begins, mapped_all}
 use Rattle.sc_matrix.proofs.rows.Rows.product.Goals as goal
 
