@@ -1,6 +1,6 @@
 -- Numbers of elements as a module, and what the operations on rows of numbers are on the matrix of the elements. The laws
 -- come first: under a bound `F: Field` they are `g.met.F.Field.field`, `.action`, `.numbered` and `.by_number`.
-use Rattle.std.proofs.Common.{◌≡◌, ◌↔◌, ℕ, ◌<◌, ◌≤◌, List, [], ◌++◌, All, Option, None, Some, MatchOption, length, get_or, map, take, drop, replicate, bit_xor, refl, sym, ◌∙◌, ap, ap₂, subst, arith}
+use Rattle.std.proofs.Common.{◌≡◌, ◌↔◌, ℕ, ◌-◌, ◌<◌, ◌≤◌, List, [], ◌++◌, All, Option, None, Some, MatchOption, length, get_or, map, take, drop, replicate, bit_xor, refl, sym, ◌∙◌, ap, ap₂, subst, arith}
 use Rattle.std.specs.Int.Bits.{xor_zero_r}
 use Rattle.std.proofs.lemmas.List.{map-append, take-map, drop-map, drop_all, take_all, length-map, length-replicate, get_or-map, get_or-replicate, ext_get_or}
 use Rattle.std.proofs.lemmas.List.Elements.{All-same}
@@ -68,20 +68,20 @@ module _ {A : Type 0} {IsElement : A → Type 0} {zero one : A} {add sub mul : A
 
   -- the row a of add_row_from, as numbers and as elements
   module _ {c : ℕ} (u v : List ℕ) (x : A) (from : ℕ) (hx : IsElement x) (hu : IsVector Number c u) (hv : IsVector Number c v) (le : from ≤ c) where
+    rest_u : IsVector Number (c - from) (drop from u)
+    rest_u = IsVector-drop from u hu
+
+    rest_v : IsVector Number (c - from) (scale_vector act x (drop from v))
+    rest_v = (vector_module number_module (c - from)).times_value x _ hx (IsVector-drop from v hv)
+
     pub numbers-added : IsVector Number c (take from u ++ add_vectors bit_xor (drop from u) (scale_vector act x (drop from v)))
     numbers-added =
-        let rest = IsVector-add_vectors bit_xor (drop from u) (scale_vector act x (drop from v)) number_module.plus_value (IsVector-drop from u hu)
-        (IsVector-map (act x) (drop from v) (λ n hn. number_module.times_value x n hx hn) (IsVector-drop from v hv)) in
-        let whole = IsVector-append (take from u) (add_vectors bit_xor (drop from u) (scale_vector act x (drop from v))) (IsVector-take from u hu le) rest in
-        let w = whole.width in
-        record { width = omega arith; entries = whole.entries }
+        let whole = IsVector-append _ _ (IsVector-take from u hu le) ((vector_module number_module (c - from)).plus_value _ _ rest_u rest_v) in
+        record { width = omega (arith, whole.width); entries = whole.entries }
 
     pub elements-added : map element (take from u ++ add_vectors bit_xor (drop from u) (scale_vector act x (drop from v))) ≡ take from (map element u) ++ add_vectors add (drop from (map element u)) (scale_vector mul x (drop from (map element v)))
     elements-added =
-        map-append element (take from u) (add_vectors bit_xor (drop from u) (scale_vector act x (drop from v)))
-        ∙ ap₂ (λ (s t : List A). s ++ t) (sym (take-map element from u))
-        (elements-add (drop from u) (scale_vector act x (drop from v)) (IsVector-drop from u hu) (IsVector-map (act x) (drop from v) (λ n hn. number_module.times_value x n hx hn) (IsVector-drop from v hv))
-        ∙ ap₂ (add_vectors add) (sym (drop-map element from u)) (elements-times x (drop from v) hx (IsVector-drop from v hv) ∙ ap (scale_vector mul x) (sym (drop-map element from v))))
+        simp (map-append, take-map, drop-map, elements-add (drop from u) (scale_vector act x (drop from v)) rest_u rest_v, elements-times x (drop from v) hx (IsVector-drop from v hv))
 
   -- to take the element of a number is linear, and so is to take those of a row
   pub element_linear : IsLinear IsElement Number 0 bit_xor act zero add mul element
