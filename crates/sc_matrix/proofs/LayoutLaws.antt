@@ -26,8 +26,7 @@ module _ {A : Type 0} where
   get_or-cut (suc n) c xs zero d h = let e : 0 * c ≡ 0 = omega arith in rw e refl
   get_or-cut (suc n) c xs (suc i) d h =
       let e : suc i * c ≡ c + i * c = omega arith in
-      let s : take c (drop (i * c) (drop c xs)) ≡ take c (drop (suc i * c) xs) = rw e (rw drop-drop refl) in
-      get_or-cut n c (drop c xs) i d (omega arith) ∙ s
+      get_or-cut n c (drop c xs) i d (omega arith) ∙ rw (e, drop-drop (i * c) c xs) refl
 
   -- each row has c entries
   pub vectors-cut : (P : A → Type 0) (n c : ℕ) (xs : List A) → length xs ≡ n * c → All P xs → All (IsVector P c) (cut n c xs)
@@ -35,10 +34,7 @@ module _ {A : Type 0} where
       let g = length-cut n c xs in
       let w = row_within n c k (omega arith) in
       rw (get_or-cut n c xs k d (omega arith))
-      record {
-        width = length-take-le c (drop (k * c) xs) (rw length-drop (omega arith));
-        entries = All-take P c (drop (k * c) xs) (All-drop P (k * c) xs a);
-      }
+      record { width = length-take-le c (drop (k * c) xs) (rw length-drop (omega arith)); entries = All-take P c _ (All-drop P (k * c) xs a) }
 
   pub length-row : (n c : ℕ) (xs : List A) (i : ℕ) → length xs ≡ n * c → i < n → length (get_or (cut n c xs) i []) ≡ c
   length-row n c xs i e h =
@@ -112,11 +108,8 @@ module _ {A : Type 0} where
 
   pub length-put_mid : (a k : ℕ) (xs ys : List A) → a + k ≤ length xs → length ys ≡ k → length (put_mid a k xs ys) ≡ length xs
   length-put_mid a k xs ys h e =
-      let t : length (take a xs) ≡ a = length-take-le a xs (omega arith) in
-      let d : length (drop k (drop a xs)) ≡ length xs - a - k = length-drop k (drop a xs) ∙ ap (λ m. m - k) (length-drop a xs) in
-      let f : length (put_mid a k xs ys) ≡ length (take a xs) + (length ys + length (drop k (drop a xs))) =
-      length-append (take a xs) (ys ++ drop k (drop a xs)) ∙ ap (λ m. length (take a xs) + m) (length-append ys (drop k (drop a xs))) in
-      omega arith
+      let t = length-take-le a xs (omega arith) in
+      simp (length-append, length-drop, t, e) (omega arith)
 
   -- the items of a `Vec` whose slice has been written
   pub items_written : {Z : Type 0} (v : Vec A Z) (zs : List A) → length zs ≡ length v.items → (with_items v zs).items ≡ zs

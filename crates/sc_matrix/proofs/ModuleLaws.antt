@@ -17,14 +17,12 @@ module _ {C A : Type 0} {IsElement : C → Type 0} {zero one : C} {add sub mul :
 
   pub plus_four : (a b c d : A) → IsValue a → IsValue b → IsValue c → IsValue d → plus (plus a b) (plus c d) ≡ plus (plus a c) (plus b d)
   plus_four a b c d ha hb hc hd =
-      ml.plus_assoc a b (plus c d) ha hb (ml.plus_value c d hc hd)
-      ∙ ap (plus a) (sym (ml.plus_assoc b c d hb hc hd) ∙ ap (λ (e : A). plus e d) (ml.plus_comm b c hb hc) ∙ ml.plus_assoc c b d hc hb hd)
-      ∙ sym (ml.plus_assoc a c (plus b d) ha hc (ml.plus_value b d hb hd))
+      rw (ml.plus_assoc a b _ ha hb (ml.plus_value c d hc hd), ← (ml.plus_assoc b c d hb hc hd), ml.plus_comm b c hb hc, ml.plus_assoc c b d hc hb hd,
+      ml.plus_assoc a c _ ha hc (ml.plus_value b d hb hd)) refl
 
   pub times_none : (x : C) → IsElement x → times x none ≡ none
   times_none x hx =
-      ap (times x) (sym (ml.times_zero none ml.none_value)) ∙ sym (ml.times_mul x zero none hx laws.zero_element ml.none_value)
-      ∙ ap (λ (y : C). times y none) (mul_zero laws x hx) ∙ ml.times_zero none ml.none_value
+      rw (← (ml.times_zero none ml.none_value), ← (ml.times_mul x zero none hx laws.zero_element ml.none_value), mul_zero laws x hx) refl
 
   pub inv_times : (x : C) (v : A) → IsElement x → IsValue v → x ≢ zero → times (inv x) (times x v) ≡ v
   inv_times x v hx hv h =
@@ -37,11 +35,8 @@ module _ {C A : Type 0} {IsElement : C → Type 0} {zero one : C} {add sub mul :
   pub plus_times_back : (x : C) (u w : A) → IsElement x → IsValue u → IsValue w → plus (plus u (times x w)) (times (sub zero x) w) ≡ u
   plus_times_back x u w hx hu hw =
       let hn = laws.sub_element zero x laws.zero_element hx in
-      ml.plus_assoc u (times x w) (times (sub zero x) w) hu (ml.times_value x w hx hw) (ml.times_value (sub zero x) w hn hw)
-      ∙ ap (plus u)
-      (sym (ml.times_add x (sub zero x) w hx hn hw) ∙ ap (λ (y : C). times y w) (laws.add_comm x (sub zero x) hx hn ∙ laws.sub_add zero x laws.zero_element hx)
-      ∙ ml.times_zero w hw)
-      ∙ ml.plus_none u hu
+      rw (ml.plus_assoc u _ _ hu (ml.times_value x w hx hw) (ml.times_value _ w hn hw), ← (ml.times_add x (sub zero x) w hx hn hw), laws.add_comm x _ hx hn,
+      laws.sub_add zero x laws.zero_element hx, ml.times_zero w hw) (ml.plus_none u hu)
 
   pub plus_cancel : (u v w : A) → IsValue u → IsValue v → IsValue w → plus u v ≡ plus u w → v ≡ w
   plus_cancel u v w hu hv hw e =
@@ -166,17 +161,13 @@ module _ {C A : Type 0} {IsElement : C → Type 0} {zero one : C} {add sub mul :
   pub dot_more : {p q : ℕ} (cs : List C) (vs : List A) (n : ℕ) → IsVector IsElement p cs → IsVector IsValue q vs → n < p → n < q
       → dot none plus times (take (n + 1) cs) (take (n + 1) vs) ≡ plus (dot none plus times (take n cs) (take n vs)) (times (get_or cs n zero) (get_or vs n none))
   dot_more {p = p} {q = q} cs vs n hc hv lc lv =
-      let wc = hc.width in
-      let wv = hv.width in
-      let c : C = get_or cs n zero in
-      let v : A = get_or vs n none in
       let pc : IsVector IsElement n (take n cs) = IsVector-take n cs hc (omega arith) in
       let pv : IsVector IsValue n (take n vs) = IsVector-take n vs hv (omega arith) in
-      let h1 : IsElement c = entry_at n zero hc lc in
-      let h2 : IsValue v = entry_at n none hv lv in
-      ap₂ (dot none plus times) (take_more cs n zero (omega arith)) (take_more vs n none (omega arith))
-      ∙ dot-append (take n cs) (c ∷ []) (take n vs) (v ∷ []) (pc.width ∙ sym pv.width) pc (IsVector-replicate 1 c h1) pv (IsVector-replicate 1 v h2)
-      ∙ ap (plus (dot none plus times (take n cs) (take n vs))) (ml.plus_none (times c v) (ml.times_value c v h1 h2))
+      let c = entry_at n zero hc lc in
+      let v = entry_at n none hv lv in
+      ap₂ (dot none plus times) (take_more cs n zero (omega (arith, hc.width))) (take_more vs n none (omega (arith, hv.width)))
+      ∙ dot-append (take n cs) (get_or cs n zero ∷ []) (take n vs) (get_or vs n none ∷ []) (pc.width ∙ sym pv.width) pc (IsVector-replicate 1 _ c) pv (IsVector-replicate 1 _ v)
+      ∙ ap (plus (dot none plus times (take n cs) (take n vs))) (ml.plus_none _ (ml.times_value _ _ c v))
 
   -- with a unit vector it is the value at its place
   pub dot_unit : (n i : ℕ) (vs : List A) → IsVector IsValue n vs → i < n → dot none plus times (unit_vector zero one n i) vs ≡ get_or vs i none

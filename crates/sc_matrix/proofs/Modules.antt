@@ -8,7 +8,7 @@ use Rattle.sc_field.specs.FieldLemmas.{add_mul, zero_mul, one_mul}
 use Rattle.sc_matrix.specs.Module.{IsModule, IsLinear, IsByte}
 use Rattle.sc_matrix.specs.Laws.{AreDotLaws}
 use Rattle.sc_matrix.specs.Vector.{IsVector, add_vectors, scale_vector, dot, combination}
-use Rattle.sc_matrix.proofs.VectorLaws.{add_vectors-none, head, tail, map_same, map_const, map-plus, map-map, map-add_vectors, IsVector-replicate, IsVector-add_vectors, IsVector-map}
+use Rattle.sc_matrix.proofs.VectorLaws.{add_vectors-none, add_vectors-comm, add_vectors-assoc, head, tail, map_same, map_const, map-plus, map-map, map-add_vectors, IsVector-replicate, IsVector-add_vectors, IsVector-map}
 use Rattle.sc_matrix.proofs.ModuleLaws.{value-dot, linear-dot, dot_zero_left, dot-add_left, dot-scale_left, dot-add_right, dot-scale_right, dot-append, dot-zeros_back, dot-zeros_front, dot-picked, dot_unit}
 
 module _ {A : Type 0} {IsElement : A → Type 0} {zero one : A} {add sub mul : A → A → A} {inv : A → A} (laws : IsField IsElement zero one add sub mul inv) where
@@ -44,23 +44,13 @@ byte_module action = record {
 
 -- ---- vectors of n values of a module
 module _ {C A : Type 0} {IsElement : C → Type 0} {zero one : C} {add mul : C → C → C} {IsValue : A → Type 0} {none : A} {plus : A → A → A} {times : C → A → A} (ml : IsModule IsElement zero one add mul IsValue none plus times) where
-  vectors_comm : (us vs : List A) {n : ℕ} → IsVector IsValue n us → IsVector IsValue n vs → add_vectors plus us vs ≡ add_vectors plus vs us
-  vectors_comm (u ∷ us) (v ∷ vs) hu hv = ap₂ (λ (x : A) (xs : List A). x ∷ xs) (ml.plus_comm u v (head hu) (head hv)) (vectors_comm us vs (tail hu) (tail hv))
-  vectors_comm [] [] hu hv = refl
-  vectors_comm us vs hu hv = absurd (omega (arith, hu.width, hv.width))
-
-  vectors_assoc : (us vs ws : List A) {n : ℕ} → IsVector IsValue n us → IsVector IsValue n vs → IsVector IsValue n ws → add_vectors plus (add_vectors plus us vs) ws ≡ add_vectors plus us (add_vectors plus vs ws)
-  vectors_assoc (u ∷ us) (v ∷ vs) (w ∷ ws) hu hv hw =
-      ap₂ (λ (x : A) (xs : List A). x ∷ xs) (ml.plus_assoc u v w (head hu) (head hv) (head hw)) (vectors_assoc us vs ws (tail hu) (tail hv) (tail hw))
-  vectors_assoc us vs ws hu hv hw = refl
-
   pub vector_module : (n : ℕ) → IsModule IsElement zero one add mul (IsVector IsValue n) (replicate n none) (add_vectors plus) (scale_vector times)
   vector_module n = record {
     none_value = IsVector-replicate n none ml.none_value;
     plus_value = λ u v hu hv. IsVector-add_vectors plus u v ml.plus_value hu hv;
     times_value = λ x v hx hv. IsVector-map (times x) v (λ y hy. ml.times_value x y hx hy) hv;
-    plus_comm = λ u v hu hv. vectors_comm u v hu hv;
-    plus_assoc = λ u v w hu hv hw. vectors_assoc u v w hu hv hw;
+    plus_comm = λ u v hu hv. add_vectors-comm plus u v ml.plus_comm hu hv;
+    plus_assoc = λ u v w hu hv hw. add_vectors-assoc plus u v w ml.plus_assoc hu hv hw;
     plus_none = λ v hv. add_vectors-none plus none v ml.plus_none hv;
     times_one = λ v hv. map_same (times one) (λ (y : A). y) v ml.times_one hv ∙ map-id v;
     times_zero = λ v hv. map_const (times zero) none v ml.times_zero hv;
@@ -103,14 +93,15 @@ module _ {C A : Type 0} {IsElement : C → Type 0} {zero one : C} {add sub mul :
   }
 
 -- bytes alone: no premise on their size
-pub vectors_none-bytes : (n : ℕ) (vs : List ℕ) → length vs ≡ n → add_vectors bit_xor vs (replicate n 0) ≡ vs
-vectors_none-bytes n vs e = add_vectors-none {P = λ (x : ℕ). Unit {0}} bit_xor 0 vs (λ v u. xor_zero_r v) (record { width = e; entries = λ k d h. tt })
+module _ where
+  abbrev numbers : (vs : List ℕ) → IsVector (λ (x : ℕ). Unit {0}) (length vs) vs
+  numbers vs = record { width = refl; entries = λ k d h. tt }
 
-pub vectors_none_left-bytes : (n : ℕ) (vs : List ℕ) → length vs ≡ n → add_vectors bit_xor (replicate n 0) vs ≡ vs
-vectors_none_left-bytes naught [] e = refl
-vectors_none_left-bytes (suc n) (v ∷ vs) e = ap₂ (λ (x : ℕ) (xs : List ℕ). x ∷ xs) (xor_zero_l v) (vectors_none_left-bytes n vs (omega arith))
-vectors_none_left-bytes n vs e = absurd (omega arith)
+  pub vectors_none-bytes : (n : ℕ) (vs : List ℕ) → length vs ≡ n → add_vectors bit_xor vs (replicate n 0) ≡ vs
+  vectors_none-bytes n vs e = rw (← e) (add_vectors-none bit_xor 0 vs (λ v _. xor_zero_r v) (numbers vs))
 
-pub vectors_assoc-bytes : (us vs ws : List ℕ) → add_vectors bit_xor (add_vectors bit_xor us vs) ws ≡ add_vectors bit_xor us (add_vectors bit_xor vs ws)
-vectors_assoc-bytes (u ∷ us) (v ∷ vs) (w ∷ ws) = ap₂ (λ (x : ℕ) (xs : List ℕ). x ∷ xs) (xor_assoc u v w) (vectors_assoc-bytes us vs ws)
-vectors_assoc-bytes us vs ws = refl
+  pub vectors_none_left-bytes : (n : ℕ) (vs : List ℕ) → length vs ≡ n → add_vectors bit_xor (replicate n 0) vs ≡ vs
+  vectors_none_left-bytes n vs e = add_vectors-comm bit_xor (replicate n 0) vs (λ u v _ _. xor_comm u v) (numbers _) (numbers vs) ∙ vectors_none-bytes n vs e
+
+  pub vectors_assoc-bytes : (us vs ws : List ℕ) → add_vectors bit_xor (add_vectors bit_xor us vs) ws ≡ add_vectors bit_xor us (add_vectors bit_xor vs ws)
+  vectors_assoc-bytes us vs ws = add_vectors-assoc bit_xor us vs ws (λ u v w _ _ _. xor_assoc u v w) (numbers us) (numbers vs) (numbers ws)

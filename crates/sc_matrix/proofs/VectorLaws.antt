@@ -43,12 +43,10 @@ module _ {A : Type 0} {P : A → Type 0} where
 
   pub IsVector-add_vectors : (add : A → A → A) (xs ys : List A) {n : ℕ} → ((x y : A) → P x → P y → P (add x y)) → IsVector P n xs → IsVector P n ys → IsVector P n (add_vectors add xs ys)
   IsVector-add_vectors add [] ys each h k = record { width = h.width; entries = All-nil P }
-  IsVector-add_vectors add (x ∷ xs) [] {n = n} each h k = let v = h.width in let w = k.width in absurd (omega arith)
+  IsVector-add_vectors add (x ∷ xs) [] {n = n} each h k = absurd (omega (arith, h.width, k.width))
   IsVector-add_vectors add (x ∷ xs) (y ∷ ys) {n = n} each h k =
       let t : IsVector P (n - 1) (add_vectors add xs ys) = IsVector-add_vectors add xs ys each (tail h) (tail k) in
-      let v = h.width in
-      let w = t.width in
-      record { width = omega arith; entries = All-cons P _ _ (each x y (head h) (head k)) t.entries }
+      record { width = omega (arith, h.width, t.width); entries = All-cons P _ _ (each x y (head h) (head k)) t.entries }
 
   -- ---- maps of the entries
   pub map_same : {B : Type 0} (f g : A → B) (xs : List A) {n : ℕ} → ((x : A) → P x → f x ≡ g x) → IsVector P n xs → map f xs ≡ map g xs
@@ -64,6 +62,18 @@ module _ {A : Type 0} {P : A → Type 0} where
   add_vectors-none plus zero [] each h = refl
   add_vectors-none plus zero (x ∷ xs) each h =
       rw (← h.width) (ap₂ (λ (y : A) (ys : List A). y ∷ ys) (each x (head h)) (add_vectors-none plus zero xs each (vector_of xs (tail h).entries)))
+
+  pub add_vectors-comm : (plus : A → A → A) (us vs : List A) {m n : ℕ} → ((u v : A) → P u → P v → plus u v ≡ plus v u) → IsVector P m us → IsVector P n vs → add_vectors plus us vs ≡ add_vectors plus vs us
+  add_vectors-comm plus (u ∷ us) (v ∷ vs) each hu hv = ap₂ (λ (x : A) (xs : List A). x ∷ xs) (each u v (head hu) (head hv)) (add_vectors-comm plus us vs each (tail hu) (tail hv))
+  add_vectors-comm plus [] [] each hu hv = refl
+  add_vectors-comm plus [] (v ∷ vs) each hu hv = refl
+  add_vectors-comm plus (u ∷ us) [] each hu hv = refl
+
+  pub add_vectors-assoc : (plus : A → A → A) (us vs ws : List A) {m n k : ℕ} → ((u v w : A) → P u → P v → P w → plus (plus u v) w ≡ plus u (plus v w))
+      → IsVector P m us → IsVector P n vs → IsVector P k ws → add_vectors plus (add_vectors plus us vs) ws ≡ add_vectors plus us (add_vectors plus vs ws)
+  add_vectors-assoc plus (u ∷ us) (v ∷ vs) (w ∷ ws) each hu hv hw =
+      ap₂ (λ (x : A) (xs : List A). x ∷ xs) (each u v w (head hu) (head hv) (head hw)) (add_vectors-assoc plus us vs ws each (tail hu) (tail hv) (tail hw))
+  add_vectors-assoc plus us vs ws each hu hv hw = refl
 
   -- the sum of two maps
   pub map-plus : {B : Type 0} (plus : B → B → B) (f g h : A → B) (xs : List A) {n : ℕ} → ((x : A) → P x → f x ≡ plus (g x) (h x)) → IsVector P n xs → map f xs ≡ add_vectors plus (map g xs) (map h xs)
@@ -116,10 +126,10 @@ module _ {A : Type 0} where
   length-combination zero add mul n [] vs h = length-replicate n zero
   length-combination zero add mul n (c ∷ cs) [] h = length-replicate n zero
   length-combination zero add mul n (c ∷ cs) (v ∷ vs) h =
-      let t : length (combination zero add mul n cs vs) ≡ n = length-combination zero add mul n cs vs (tail h) in
-      let s : length (scale_vector mul c v) ≡ length v = length-scale_vector mul c v in
-      let w : length v ≡ n = (head h).width in
-      length-add_vectors add (scale_vector mul c v) (combination zero add mul n cs vs) (s ∙ w ∙ sym t) ∙ s ∙ w
+      let t = length-combination zero add mul n cs vs (tail h) in
+      let s = length-scale_vector mul c v in
+      let w = (head h).width in
+      length-add_vectors add (scale_vector mul c v) (combination zero add mul n cs vs) (omega arith) ∙ s ∙ w
 
   pub get_or-combination : {C : Type 0} {P : A → Type 0} (zero : A) (add : A → A → A) (mul : C → A → A) (n : ℕ) (cs : List C) (vs : List (List A)) (j : ℕ) {q : ℕ} → IsVector (IsVector P n) q vs → j < n
       → get_or (combination zero add mul n cs vs) j zero ≡ dot zero add mul cs (map (λ (v : List A). get_or v j zero) vs)

@@ -101,7 +101,7 @@ module _ {C A : Type 0} where
   apply zero add mul m v = map (λ r. dot zero add mul r v) m.rows
 
   -- The product of two matrices: each row of a gives the combination of the rows of b that has its entries as
-  -- coefficients. Law `entry-product` says the same by dot products of rows and columns.
+  -- coefficients. Field `entries` of `AreProductLaws` says the same by dot products of rows and columns.
   abbrev pub product : A → (A → A → A) → (C → A → A) → Matrix C → Matrix A → Matrix A
   product zero add mul a b =
       record { cols = b.cols; rows = map (λ r. combination zero add mul b.cols r b.rows) a.rows }
