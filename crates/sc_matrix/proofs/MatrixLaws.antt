@@ -3,7 +3,7 @@ use Rattle.std.proofs.Common.{◌≡◌, ℕ, zero as naught, suc, ◌<◌, List
 use Rattle.std.specs.List.{range_with_len}
 use Rattle.std.proofs.lemmas.Bool.{cases_lt}
 use Rattle.std.proofs.Math.ListN.{get_or-map}
-use Rattle.std.proofs.lemmas.List.{length-map, map-set, get_or_past, take-map, map_push}
+use Rattle.std.proofs.lemmas.List.{length-map, map-set, get_or_past, take-map, take_all, map_push}
 use Rattle.std.proofs.lemmas.Grind.{common_steps}
 use Rattle.std.proofs.lemmas.List.Elements.{All-nil, All-head, All-map, All-set}
 use Rattle.std.proofs.lemmas.List.FromFn.{length-range_with_len, get_or-range_with_len}
@@ -103,4 +103,4 @@ module _ {A B : Type 0} (f : A → B) where
   map-swap [] a b = refl
   map-swap (x ∷ xs) a b = simp (map-set, ← (get_or-map f (x ∷ xs) a x), ← (get_or-map f (x ∷ xs) b x))
 
-pub ruleset matrix_steps = (common_steps, map-set, take-map, map_push, map-replicate, length-map, length-cut, map-row, map-swap, All-swap)
+pub ruleset matrix_steps = (common_steps, take_all, map-set, take-map, map_push, map-replicate, length-map, length-cut, map-row, map-swap, All-swap)

@@ -1,10 +1,8 @@
-use Rattle.std.proofs.Common.{◌≡◌, ℕ, List, [], length, map, ap₂, arith}
-use Rattle.std.specs.List.{range_with_len}
+use Rattle.std.proofs.Common.{[], arith}
 use Rattle.std.proofs.lemmas.Grind.{common_steps}
-use Rattle.std.proofs.lemmas.List.FromFn.{length-range_with_len, get_or-range_with_len}
+use Rattle.std.proofs.lemmas.List.FromFn.{fill_by_all}
 use Rattle.sc_matrix.specs.Vector.{unit_vector}
-use Rattle.sc_matrix.specs.Matrix.{Matrix}
-use Rattle.sc_matrix.proofs.ByteSteps.{mapped_all}
+use Rattle.sc_matrix.proofs.ProductLaws.{same_matrix}
 use Rattle.sc_matrix.proofs.matrix.Matrix.identity.Goals as goal
 
 pub loop-i-preserved : goal.loop-i-preserved
@@ -17,9 +15,6 @@ loop-i-preserved g c = record {
 
 pub returns : goal.returns
 returns g c =
-    let n = c.args.n in
-    let f = unit_vector g.F.Field.zero g.F.Field.one n in
-    let l = length-range_with_len 0 n in
-    let count : length c.loop-i.m.rows ≡ length (range_with_len 0 n) = omega arith in
-    let all : c.loop-i.m.rows ≡ map f (range_with_len 0 n) = mapped_all f (range_with_len 0 n) c.loop-i.m.rows 0 [] count (λ k h. grind (arith, get_or-range_with_len, c.loop-i.invariant.done k)) in
-    ap₂ (λ (n : ℕ) (rs : List (List g.row.F.Denot)). let m : Matrix g.row.F.Denot = record { cols = n; rows = rs } in m) c.loop-i.invariant.cols all
+    let l = c.loop-i.invariant in
+    let unit = unit_vector g.F.Field.zero g.F.Field.one c.args.n in
+    same_matrix _ _ l.cols (fill_by_all unit c.loop-i.m.rows c.args.n [] l.count (λ k h. l.done k (omega arith)))

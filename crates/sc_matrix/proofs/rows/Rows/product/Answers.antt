@@ -1,9 +1,9 @@
-use Rattle.std.proofs.Common.{◌≡◌, ℕ, List, [], length, map, bit_xor, ap, ap₂, arith}
+use Rattle.std.proofs.Common.{◌≡◌, List, [], length, bit_xor, arith}
 use Rattle.sc_matrix.specs.Vector.{combination}
-use Rattle.sc_matrix.specs.Matrix.{Matrix}
 use Rattle.sc_matrix.specs.Numbers.{elements_of}
 use Rattle.sc_matrix.specs.Rows.{table}
 use Rattle.sc_matrix.proofs.MatrixLaws.{map-row}
+use Rattle.sc_matrix.proofs.ProductLaws.{same_matrix}
 use Rattle.sc_matrix.proofs.ByteSteps.{rows_steps, sum_begins, mapped_all}
 use Rattle.sc_matrix.proofs.rows.Rows.product.Goals as goal
 
@@ -22,5 +22,4 @@ returns g c =
     let f = λ (r : List g.row.F.Denot). combination 0 bit_xor g.F.Field.act c.args.b.now.width r (table c.args.b.now).rows in
     let count : length (table out).rows ≡ length rows = grind (arith, rows_steps) in
     let n : length rows ≡ c.args.a.now.count = grind (arith, rows_steps) in
-    let all : (table out).rows ≡ map f rows = mapped_all f rows (table out).rows [] [] count (λ k h. grind (arith, map-row, c.loop-i.invariant.done k)) in
-    ap₂ (λ (n : ℕ) (rs : List (List ℕ)). let m : Matrix ℕ = record { cols = n; rows = rs } in m) c.loop-i.invariant.width all
+    same_matrix _ _ c.loop-i.invariant.width (mapped_all f rows (table out).rows [] [] count (λ k h. grind (arith, map-row, c.loop-i.invariant.done k)))
