@@ -100,4 +100,5 @@ sum_begins act n c xs cs e =
     vectors_none_left-bytes c _ (length-combination 0 bit_xor act c cs (cut n c xs) rows)
 
 pub ruleset rows_steps = (length-replicate, length-set, get_or-replicate, get_or-set_at, get_or-set_other, mapped_more, length-map, length-append, get_or-range_with_len, length-range_with_len, take_at_read, map_push, append_assoc, row_put, cut-set, cut-take, cut-push, rows_filled, get_or-cut, length-cut, length-put_mid, with_items_is, take_all, get_or-take, get_or-drop)
+
 pub ruleset two_rows = (rows_apart, rows_swapped, row_added, rows_steps)

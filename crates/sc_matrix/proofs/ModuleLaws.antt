@@ -17,8 +17,13 @@ module _ {C A : Type 0} {IsElement : C → Type 0} {zero one : C} {add sub mul :
 
   pub plus_four : (a b c d : A) → IsValue a → IsValue b → IsValue c → IsValue d → plus (plus a b) (plus c d) ≡ plus (plus a c) (plus b d)
   plus_four a b c d ha hb hc hd =
-      rw (ml.plus_assoc a b _ ha hb (ml.plus_value c d hc hd), ← (ml.plus_assoc b c d hb hc hd), ml.plus_comm b c hb hc, ml.plus_assoc c b d hc hb hd,
-      ml.plus_assoc a c _ ha hc (ml.plus_value b d hb hd)) refl
+      rw (
+        ml.plus_assoc a b _ ha hb (ml.plus_value c d hc hd),
+        ← (ml.plus_assoc b c d hb hc hd),
+        ml.plus_comm b c hb hc,
+        ml.plus_assoc c b d hc hb hd,
+        ml.plus_assoc a c _ ha hc (ml.plus_value b d hb hd),
+      ) refl
 
   pub times_none : (x : C) → IsElement x → times x none ≡ none
   times_none x hx =
@@ -35,8 +40,13 @@ module _ {C A : Type 0} {IsElement : C → Type 0} {zero one : C} {add sub mul :
   pub plus_times_back : (x : C) (u w : A) → IsElement x → IsValue u → IsValue w → plus (plus u (times x w)) (times (sub zero x) w) ≡ u
   plus_times_back x u w hx hu hw =
       let hn = laws.sub_element zero x laws.zero_element hx in
-      rw (ml.plus_assoc u _ _ hu (ml.times_value x w hx hw) (ml.times_value _ w hn hw), ← (ml.times_add x (sub zero x) w hx hn hw), laws.add_comm x _ hx hn,
-      laws.sub_add zero x laws.zero_element hx, ml.times_zero w hw) (ml.plus_none u hu)
+      rw (
+        ml.plus_assoc u _ _ hu (ml.times_value x w hx hw) (ml.times_value _ w hn hw),
+        ← (ml.times_add x (sub zero x) w hx hn hw),
+        laws.add_comm x _ hx hn,
+        laws.sub_add zero x laws.zero_element hx,
+        ml.times_zero w hw,
+      ) (ml.plus_none u hu)
 
   pub plus_cancel : (u v w : A) → IsValue u → IsValue v → IsValue w → plus u v ≡ plus u w → v ≡ w
   plus_cancel u v w hu hv hw e =

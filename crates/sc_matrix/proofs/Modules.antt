@@ -1,6 +1,6 @@
 -- The modules of this crate over a field: the field itself, its action on bytes, and the vectors of n values of a module.
-use Rattle.std.proofs.Common.{◌≡◌, ℕ, zero as naught, suc, List, [], ◌∷◌, length, map, replicate, bit_xor, refl, sym, ◌∙◌, ap₂, arith}
-use Rattle.std.specs.Int.Bits.{xor_assoc, xor_zero_r, xor_zero_l}
+use Rattle.std.proofs.Common.{◌≡◌, ℕ, List, length, map, replicate, bit_xor, refl, sym, ◌∙◌, arith}
+use Rattle.std.specs.Int.Bits.{xor_assoc, xor_zero_r}
 use Rattle.std.proofs.lemmas.Nat.{xor_comm, xor_of_8}
 use Rattle.std.proofs.lemmas.List.{map-id}
 use Rattle.sc_field.specs.Field.{IsField, IsAction}
@@ -8,7 +8,7 @@ use Rattle.sc_field.specs.FieldLemmas.{add_mul, zero_mul, one_mul}
 use Rattle.sc_matrix.specs.Module.{IsModule, IsLinear, IsByte}
 use Rattle.sc_matrix.specs.Laws.{AreDotLaws}
 use Rattle.sc_matrix.specs.Vector.{IsVector, add_vectors, scale_vector, dot, combination}
-use Rattle.sc_matrix.proofs.VectorLaws.{add_vectors-none, add_vectors-comm, add_vectors-assoc, head, tail, map_same, map_const, map-plus, map-map, map-add_vectors, IsVector-replicate, IsVector-add_vectors, IsVector-map}
+use Rattle.sc_matrix.proofs.VectorLaws.{add_vectors-none, add_vectors-comm, add_vectors-assoc, map_same, map_const, map-plus, map-map, map-add_vectors, IsVector-replicate, IsVector-add_vectors, IsVector-map}
 use Rattle.sc_matrix.proofs.ModuleLaws.{value-dot, linear-dot, dot_zero_left, dot-add_left, dot-scale_left, dot-add_right, dot-scale_right, dot-append, dot-zeros_back, dot-zeros_front, dot-picked, dot_unit}
 
 module _ {A : Type 0} {IsElement : A → Type 0} {zero one : A} {add sub mul : A → A → A} {inv : A → A} (laws : IsField IsElement zero one add sub mul inv) where

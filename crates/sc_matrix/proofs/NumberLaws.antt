@@ -13,12 +13,11 @@ use Rattle.sc_matrix.specs.Layout.{map_matrix}
 use Rattle.sc_matrix.specs.Rows.{table}
 use Rattle.sc_matrix.specs.Numbers.{elements_of, AreNumbers}
 use Rattle.sc_matrix.specs.declared.rows.Rows.{Rows}
-use Rattle.sc_matrix.proofs.VectorLaws.{map-map, map_same, map_const, map-add_vectors, IsVector-map, IsVector-append, IsVector-take, IsVector-drop, IsVector-replicate, IsVector-add_vectors, vector_of}
+use Rattle.sc_matrix.proofs.VectorLaws.{map-map, map_same, map_const, map-add_vectors, IsVector-map, IsVector-append, IsVector-take, IsVector-drop, IsVector-replicate, vector_of}
 use Rattle.sc_matrix.proofs.MatrixLaws.{matrix_rows, IsMatrix-map, IsMatrix-with_row, IsMatrix-transpose, IsMatrix-submatrix, row_count-map, row-map, map-with_row, map-transpose, map-submatrix, get_or-map_all}
 use Rattle.sc_matrix.proofs.ProductLaws.{IsMatrix-product}
 use Rattle.sc_matrix.proofs.ModuleLaws.{linear-dot, value-dot, dot_comm}
 use Rattle.sc_matrix.proofs.Modules.{byte_module, vector_module}
-use Rattle.sc_matrix.proofs.LayoutLaws.{length-cut}
 
 -- from one account of an option to another
 pub option_account : {A : Type 0} {P P' : Type 0} {Q Q' : A → Type 0} (o : Option A) → (P → P') → ((x : A) → Q x → Q' x) → MatchOption o P Q → MatchOption o P' Q'

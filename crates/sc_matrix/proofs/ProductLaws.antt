@@ -1,14 +1,13 @@
 -- Laws of the products of matrices, of a matrix and a vector, and of the transpose. The matrix on the left has elements of
 -- the field. What is on the right may have values of any module over it, as elements or bytes.
-use Rattle.std.proofs.Common.{◌≡◌, ℕ, ◌<◌, List, [], length, get_or, map, replicate, refl, sym, ◌∙◌, ap, ap₂, subst, arith}
+use Rattle.std.proofs.Common.{◌≡◌, ℕ, ◌<◌, List, [], get_or, map, replicate, refl, sym, ◌∙◌, ap, ap₂, subst, arith}
 use Rattle.std.specs.List.{range_with_len}
 use Rattle.std.proofs.lemmas.Grind.{get_or-set_at}
 use Rattle.std.proofs.lemmas.List.{map-id, length-map, length-replicate, get_or-map, get_or-replicate, get_or-set_other, ext_get_or}
-use Rattle.std.proofs.lemmas.List.Elements.{All-map}
 use Rattle.std.proofs.lemmas.List.FromFn.{fill_by_all, length-map-range_with_len, get_or-map-range_with_len}
 use Rattle.sc_field.specs.Field.{IsField}
 use Rattle.sc_matrix.specs.Module.{IsModule}
-use Rattle.sc_matrix.specs.Vector.{IsVector, add_vectors, scale_vector, dot, combination, unit_vector}
+use Rattle.sc_matrix.specs.Vector.{IsVector, add_vectors, dot, combination, unit_vector}
 use Rattle.sc_matrix.specs.Matrix.{Matrix, IsMatrix, row, row_count, column, apply, product, identity, transpose}
 use Rattle.sc_matrix.specs.Laws.{AreProductLaws, AreTransposeLaws}
 use Rattle.sc_matrix.proofs.VectorLaws.{IsVector-map, map_same, map_ext, map-plus, map-map, map-add_vectors, IsVector-set, IsVector-replicate, length-combination, get_or-combination}

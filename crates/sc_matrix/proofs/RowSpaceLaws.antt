@@ -1,7 +1,7 @@
 -- The row space and the kernel: both are subspaces, a vector of the kernel has a zero dot product with each of the row
 -- space, and each row operation keeps both, since another undoes it. A vector of the kernel may have values of any module.
 use Rattle.std.proofs.lemmas.Grind.{get_or-set_at}
-use Rattle.std.proofs.Common.{zero as naught, suc, ◌≡◌, ◌≢◌, ◌↔◌, ℕ, ◌+◌, ◌<◌, ◌≤◌, List, [], ◌∷◌, ◌++◌, length, get_or, set, swap, take, drop, replicate, All, subst, refl, sym, ◌∙◌, ap, ap₂, arith}
+use Rattle.std.proofs.Common.{zero as naught, suc, ◌≡◌, ◌≢◌, ◌↔◌, ℕ, ◌+◌, ◌<◌, List, [], ◌∷◌, ◌++◌, length, get_or, set, swap, take, drop, replicate, All, subst, refl, sym, ◌∙◌, ap, ap₂, arith}
 use Rattle.std.proofs.lemmas.List.{length-set, get_or-map, get_or-replicate, get_or-set_same, get_or-set_other, set-set, set-get_or, ext_get_or, get_or_default, length-append, get_or_append_left, get_or-append-add}
 use Rattle.std.proofs.lemmas.List.Elements.{All-set, All-append}
 use Rattle.std.proofs.lemmas.List.Edits.{swap_is, length-swap}
@@ -9,7 +9,7 @@ use Rattle.sc_field.specs.Field.{IsField}
 use Rattle.sc_field.specs.FieldLemmas.{mul_zero}
 use Rattle.sc_matrix.specs.Module.{IsModule}
 use Rattle.sc_matrix.specs.Vector.{IsVector, add_vectors, scale_vector, dot, combination, unit_vector}
-use Rattle.sc_matrix.specs.Matrix.{Matrix, IsMatrix, IsInKernel, row, row_count, with_row, apply, swap_rows, scale_row, add_row, add_row_from, entry, stacked}
+use Rattle.sc_matrix.specs.Matrix.{Matrix, IsMatrix, IsInKernel, row, row_count, with_row, apply, swap_rows, scale_row, add_row, stacked}
 use Rattle.sc_matrix.specs.Laws.{AreKernelLaws, AreRowSpaceLaws}
 use Rattle.sc_matrix.specs.RowSpace.{IsSubspace, IsInRowSpace, RowsAreIn, HaveOneRowSpace}
 use Rattle.sc_matrix.proofs.VectorLaws.{map_const, head, tail, vector_of}
@@ -66,10 +66,13 @@ module _ {C A : Type 0} {IsElement : C → Type 0} {zero one : C} {add sub mul :
         let rows = vector_module ml (row_count m) in
         let products = product_laws laws ml in
         record {
-          has_none = (vm.none_value, record {
-            width = vm.none_value.width;
-            zeros = map_const _ none m.rows (λ r hr. dot_zero_right laws ml m.cols r hr) (matrix_rows hm);
-          });
+          has_none = (
+            vm.none_value,
+            record {
+              width = vm.none_value.width;
+              zeros = map_const _ none m.rows (λ r hr. dot_zero_right laws ml m.cols r hr) (matrix_rows hm);
+            },
+          );
           has_plus = λ u v hu hv.
               let s = vm.plus_value u v hu.0 hv.0 in
               (s, record { width = s.width; zeros = products.vector_sum m.cols m u v hm hu.0 hv.0 ∙ ap₂ (add_vectors plus) hu.1.zeros hv.1.zeros ∙ rows.plus_none _ rows.none_value });
