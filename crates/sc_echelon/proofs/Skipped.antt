@@ -1,11 +1,11 @@
 -- What need not be looked at: a row is not changed where its entry in the column is a zero already.
-use Rattle.std.proofs.Common.{◌≡◌, ℕ, zero as naught, suc, ◌+◌, ◌<◌, ◌≤◌, Bool, true, false, List, [], length, get_or, All, Option, None, Some, inl, inr, refl, sym, ◌∙◌, ap, ap₂, subst, arith}
+use Rattle.std.proofs.Common.{◌≡◌, ℕ, zero as naught, suc, ◌+◌, ◌<◌, ◌≤◌, Bool, false, List, length, get_or, Option, Some, inl, inr, refl, sym, ◌∙◌, ap, ap₂, subst, arith}
 use Rattle.std.proofs.lemmas.List.{get_or_default}
 use Rattle.std.proofs.lemmas.Bool.{cases_lt, cases_Bool}
 use Rattle.sc_field.specs.Field.{IsField}
 use Rattle.sc_field.specs.FieldLemmas.{sub_self}
 use Rattle.sc_matrix.specs.Module.{IsModule}
-use Rattle.sc_matrix.specs.Vector.{IsVector, add_vectors, scale_vector}
+use Rattle.sc_matrix.specs.Vector.{IsVector, add_vectors}
 use Rattle.sc_matrix.proofs.Modules.{field_module, vector_module}
 use Rattle.sc_echelon.specs.Equation.{Row, IsRow}
 use Rattle.sc_echelon.specs.Table.{slot}

@@ -1,5 +1,5 @@
 -- What the calls on a window do to its bytes.
-use Rattle.std.proofs.Common.{◌≡◌, ℕ, ◌+◌, ◌-◌, ◌≤◌, List, ◌++◌, length, take, drop, replicate, refl, sym, ap, ap₂, ◌∙◌, subst, arith}
+use Rattle.std.proofs.Common.{◌≡◌, ℕ, ◌+◌, ◌-◌, ◌≤◌, List, ◌++◌, length, take, drop, replicate, sym, ap, ap₂, ◌∙◌, subst, arith}
 use Rattle.std.proofs.lemmas.List.{length-replicate, length-append, length-take-le, length-drop, take-append-drop, drop-append-le, drop-drop, drop_at, take_at, drop-replicate, replicate-append-replicate, append_assoc, append-nil, take-take, drop-take}
 use Rattle.std.proofs.Math.Seq.{take-append-add, drop-length}
 use Rattle.std.proofs.lemmas.Slice.{drop-put_mid}

@@ -1,5 +1,5 @@
 -- What is done to the touched bytes of a window is done to all of it.
-use Rattle.std.proofs.Common.{◌≡◌, ℕ, ◌+◌, ◌-◌, ◌≤◌, List, length, map, take, drop, refl, sym, ap, ◌∙◌, subst, arith}
+use Rattle.std.proofs.Common.{◌≡◌, ℕ, ◌+◌, ◌-◌, ◌≤◌, List, length, map, take, drop, sym, ap, ◌∙◌, subst, arith}
 use Rattle.std.proofs.lemmas.List.{length-map}
 use borrow.Rule.Slice.PartMut.{put_mid}
 use Rattle.sc_field.specs.Scale.{scaled_sum}

@@ -1,4 +1,4 @@
-use Rattle.std.proofs.Common.{◌≡◌, ◌-◌, ◌++◌, false, length, drop, replicate, All, sym, subst, ◌∙◌, ap, ap₂, arith}
+use Rattle.std.proofs.Common.{◌≡◌, false, length, drop, replicate, All, sym, subst, ◌∙◌, ap, arith}
 use Rattle.std.proofs.lemmas.List.{length-append, length-drop, length-replicate}
 use Rattle.sc_echelon.specs.Steps.{forget}
 use Rattle.sc_echelon.specs.Kept.{known_by, IsKept}

@@ -1,4 +1,4 @@
-use Rattle.std.proofs.Common.{◌≡◌, ◌+◌, ◌-◌, ◌<◌, ◌++◌, length, get_or, set, drop, replicate, subst, sym, ◌∙◌, ap, arith}
+use Rattle.std.proofs.Common.{◌≡◌, ◌+◌, ◌-◌, ◌<◌, length, get_or, set, drop, replicate, subst, sym, ◌∙◌, ap, arith}
 use Rattle.std.proofs.lemmas.List.{length-set, length-append, length-drop, length-replicate}
 use Rattle.std.proofs.lemmas.List.Elements.{All-set, All-same}
 use Rattle.sc_echelon.specs.Steps.{shift_row}

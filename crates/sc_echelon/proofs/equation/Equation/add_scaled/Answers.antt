@@ -1,6 +1,5 @@
 use Rattle.std.proofs.Common.{◌≡◌, length, map, min, subst, sym, ◌∙◌, ap, ap₂}
 use Rattle.std.proofs.lemmas.List.{with_items_is}
-use Rattle.std.proofs.lemmas.List.Elements.{All-same}
 use Rattle.sc_field.specs.Field.{IsNumber}
 use Rattle.sc_matrix.specs.Vector.{add_vectors, scale_vector}
 use Rattle.sc_matrix.proofs.ByteSteps.{scaled_sum_is}

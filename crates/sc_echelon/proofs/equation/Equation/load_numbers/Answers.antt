@@ -1,5 +1,4 @@
 use Rattle.std.proofs.Common.{map, sym, ◌∙◌, ap}
-use Rattle.std.proofs.lemmas.List.{with_items_is}
 use Rattle.std.proofs.lemmas.List.Elements.{All-same}
 use Rattle.sc_field.specs.Field.{IsNumber}
 use Rattle.sc_echelon.proofs.Touched.{IsTouched-read}

@@ -1,6 +1,5 @@
 use Rattle.std.proofs.Common.{map, ◌∙◌, ap, ap₂}
 use Rattle.std.proofs.lemmas.List.{with_items_is}
-use Rattle.std.proofs.lemmas.List.Elements.{All-same}
 use Rattle.sc_field.specs.Field.{IsNumber}
 use Rattle.sc_matrix.specs.Vector.{scale_vector}
 use Rattle.sc_field.specs.ActionLemmas.{act_zero}

@@ -1,4 +1,4 @@
-use Rattle.std.proofs.Common.{◌++◌, ◌≤◌, ◌-◌, ℕ, List, length, map, drop, replicate, sym, ◌∙◌, ap, subst, arith}
+use Rattle.std.proofs.Common.{◌++◌, ◌-◌, map, drop, replicate, sym, ◌∙◌, ap, subst, arith}
 use Rattle.sc_field.specs.Field.{IsNumber}
 use Rattle.sc_echelon.specs.Touched.{IsTouched}
 use Rattle.sc_echelon.proofs.NumberRows.{numbers_shifted, elements_shifted, size_of, same_row}
