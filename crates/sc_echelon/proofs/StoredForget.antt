@@ -3,7 +3,7 @@ use Rattle.std.proofs.Common.{◌≡◌, ◌≢◌, ℕ, ◌+◌, ◌-◌, ◌<�
 use Rattle.std.proofs.lemmas.List.{get_or_default, get_or-set_same, get_or-set_other}
 use Rattle.std.proofs.lemmas.List.Elements.{All-set, All-same}
 use Rattle.std.specs.List.{SwappedAt}
-use Rattle.std.proofs.lemmas.Bool.{cases_eq}
+use Rattle.std.proofs.lemmas.Bool.{cases_eq, cases_lt}
 use Rattle.sc_echelon.specs.Equation.{Row}
 use Rattle.sc_echelon.specs.Steps.{shift_row, forget}
 use Rattle.sc_echelon.specs.Storage.{table_of, MovedBelow}
@@ -34,17 +34,16 @@ module _ {A V : Type 0} (zero : A) (count : ℕ) (used : List Bool) (old : List 
         left = λ i d a. others i d (omega arith) (omega arith) ∙ h.left i d (omega arith);
       }
 
-  pub moved_off : (next : List (Row A V)) → get_or used k false ≡ false → next ≡ rows → MovedBelow zero count used old k rows → MovedBelow zero count used old (k + 1) next
-  moved_off next off same h =
-      subst (λ (xs : List (Row A V)). MovedBelow zero count used old (k + 1) xs) (sym same)
-      (record {
-        size = h.size;
-        done = λ i d b m on. elim (cases_eq (count + i) k) [
-          | inl s ↦ (let e : false ≡ true = sym off ∙ ap (λ (j : ℕ). get_or used j false) (sym s) ∙ on in absurd (cc e))
-          | inr ne ↦ h.done i d (omega arith) m on
-        ];
-        left = λ i d a. h.left i d (omega arith);
-      })
+  -- rows that are not in use are passed over
+  pub moved_skip : (m : ℕ) → k ≤ m → ((i : ℕ) → k ≤ i → i < m → get_or used i false ≡ false) → MovedBelow zero count used old k rows → MovedBelow zero count used old m rows
+  moved_skip m order off h = record {
+    size = h.size;
+    done = λ i d b fits on. elim (cases_lt (count + i) k) [
+      | inl low ↦ h.done i d low fits on
+      | inr high ↦ (let e : false ≡ true = sym (off (count + i) high b) ∙ on in absurd (cc e))
+    ];
+    left = λ i d a. h.left i d (omega arith);
+  }
 
 -- all of them
 pub forget_stored : {A V : Type 0} (zero : A) (used : List Bool) (rows : List (Row A V)) → length rows ≡ length used → (count : ℕ) → count ≤ length used → (new : List (Row A V)) → MovedBelow zero count used rows (length used) new

@@ -1,13 +1,14 @@
 -- The steps of the loops that work on stored rows.
-use Rattle.std.proofs.Common.{◌≡◌, ℕ, suc, ◌+◌, ◌<◌, Bool, true, false, List, length, get_or, set, All, Option, None, Some, refl, sym, ◌∙◌, ap, subst, arith}
+use Rattle.std.proofs.Common.{◌≡◌, ℕ, suc, ◌+◌, ◌<◌, ◌≤◌, Bool, true, false, List, length, get_or, set, All, Option, None, Some, inl, inr, refl, sym, ◌∙◌, ap, subst, arith}
 use Rattle.std.proofs.lemmas.List.{get_or_default}
+use Rattle.std.proofs.lemmas.Bool.{cases_lt}
 use Rattle.sc_matrix.specs.Vector.{add_vectors, scale_vector}
 use Rattle.sc_matrix.proofs.VectorLaws.{length-add_vectors, length-scale_vector}
 use Rattle.sc_echelon.specs.Equation.{Row}
 use Rattle.sc_echelon.specs.Table.{slot}
 use Rattle.sc_echelon.specs.Steps.{plus_row, clear_at, cleared, eliminate, reduce}
 use Rattle.sc_echelon.specs.Storage.{place, table_of, ChangedBelow}
-use Rattle.sc_echelon.proofs.StorageLaws.{slot-table_of, changed_on, changed_off}
+use Rattle.sc_echelon.proofs.StorageLaws.{slot-table_of, changed_on}
 
 module _ {X : Type 0} (used : List Bool) (rows : List X) (count : length rows ≡ length used) where
   pub slot_on : (k : ℕ) (r : X) → k < length used → get_or used k false ≡ true → r ≡ get_or rows k r → slot (table_of used rows) k ≡ Some r
@@ -57,10 +58,16 @@ module _ {A V : Type 0} (zero : A) (add sub mul : A → A → A) (plus : V → V
       subst (λ (j : ℕ). ChangedBelow (clear_at zero add sub mul plus times p by) used old j (set rows k new)) (sym e)
       (changed_on (clear_at zero add sub mul plus times p by) used old k rows new l on (ap Some (sym made)) h)
 
-  pub cleared_off : (k : ℕ) (rows new : List (Row A V)) → get_or used k false ≡ false → new ≡ rows
-      → ChangedBelow (clear_at zero add sub mul plus times p by) used old k rows → ChangedBelow (clear_at zero add sub mul plus times p by) used old (k + 1) new
-  cleared_off k rows new off en h =
-      let e : k + 1 ≡ suc k = omega arith in
-      subst (λ (j : ℕ). ChangedBelow (clear_at zero add sub mul plus times p by) used old j new) (sym e)
-      (subst (λ (s : List (Row A V)). ChangedBelow (clear_at zero add sub mul plus times p by) used old (suc k) s) (sym en)
-      (changed_off (clear_at zero add sub mul plus times p by) used old k rows refl off h))
+  -- rows that are not in use are passed over
+  pub cleared_skip : (k m : ℕ) (rows : List (Row A V)) → k ≤ m → ((i : ℕ) → k ≤ i → i < m → get_or used i false ≡ false)
+      → ChangedBelow (clear_at zero add sub mul plus times p by) used old k rows → ChangedBelow (clear_at zero add sub mul plus times p by) used old m rows
+  cleared_skip k m rows order off h = record {
+    count = h.count;
+    done = λ i d l fits. elim (cases_lt i k) [
+      | inl low ↦ h.done i d low fits
+      | inr high ↦
+          (ap (λ (b : Bool). place b (get_or rows i d)) (off i high l)
+          ∙ sym (ap (λ (b : Bool). clear_at zero add sub mul plus times p by (place b (get_or old i d))) (off i high l)))
+    ];
+    left = λ i d l. h.left i d (omega arith);
+  }

@@ -14,6 +14,7 @@ use sc_field::{Field, Multiplier, element_of};
 use sc_outside::NoMemory;
 use std::alloc::Global;
 use std::marker::{Model, PhantomData};
+use std::simd::prelude::*;
 
 // An equation. Its coefficients are kept as their numbers, so that a multiple of it is added by the vector kernel. They are
 // zero before the column `from`, and from the column `end` on.
@@ -235,12 +236,54 @@ fn known_bytes(bytes: &[u8])
     let _count = bytes.len();
 }
 
+// Whether the 32 bytes from `at` on are zero.
+#[inline(always)]
+fn is_zero_chunk(xs: &[u8], at: usize) -> bool
+    requires { at + 32 ≤ length xs.now }
+    ensures { result ≡ true → (j : ℕ) → at ≤ j → j < at + 32 → slice_index xs.now j ≡ 0 }
+{
+    u8x32::from_slice(&xs[at..]) == u8x32::splat(0)
+}
+
+// A place from `from` on that has zeros alone before it: as many vectors of zeros are passed over as there are.
+#[inline(always)]
+fn skip_zeros(xs: &[u8], from: usize, end: usize) -> usize
+    requires order { from ≤ end }
+    requires within { end ≤ length xs.now }
+    ensures order { from ≤ result }
+    ensures within { result ≤ end }
+    ensures zeros { (j : ℕ) → from ≤ j → j < result → slice_index xs.now j ≡ 0 }
+{
+    let mut at = from;
+    while end - at >= 32 && is_zero_chunk(xs, at) {
+        at += 32;
+    }
+    at
+}
+
+// The same from the end on.
+#[inline(always)]
+fn drop_zeros(xs: &[u8], from: usize, end: usize) -> usize
+    requires order { from ≤ end }
+    requires within { end ≤ length xs.now }
+    ensures order { from ≤ result }
+    ensures within { result ≤ end }
+    ensures zeros { (j : ℕ) → result ≤ j → j < end → slice_index xs.now j ≡ 0 }
+{
+    let mut at = end;
+    while at - from >= 32 && is_zero_chunk(xs, at - 32) {
+        at -= 32;
+    }
+    at
+}
+
 // How many zeros the bytes begin with.
 fn zeros_before(xs: &[u8]) -> usize
     ensures within { result ≤ length xs.now }
     ensures zeros { (j : ℕ) → j < result → slice_index xs.now j ≡ 0 }
 {
-    for i in 0..xs.len() {
+    let first = skip_zeros(xs, 0, xs.len());
+    for i in first..xs.len() {
         if xs[i] != 0 {
             return i;
         }
@@ -255,7 +298,7 @@ fn zeros_behind(xs: &[u8], from: usize) -> usize
     ensures within { result ≤ length xs.now }
     ensures zeros { (j : ℕ) → result ≤ j → slice_index xs.now j ≡ 0 }
 {
-    let mut end = xs.len();
+    let mut end = drop_zeros(xs, from, xs.len());
     while from < end && xs[end - 1] == 0 {
         end -= 1;
     }
@@ -357,7 +400,8 @@ fn first_nonzero(xs: &[u8], from: usize, end: usize) -> Option<usize>
     ensures { MatchOption result ((j : ℕ) → j < length xs.now → slice_index_or xs.now j 0 ≡ 0)
         (λ p. (p < length xs.now) × (slice_index_or xs.now p 0 ≢ 0) × ((j : ℕ) → j < p → slice_index_or xs.now j 0 ≡ 0)) }
 {
-    for i in from..end {
+    let first = skip_zeros(xs, from, end);
+    for i in first..end {
         if xs[i] != 0 {
             return Some(i);
         }
@@ -397,7 +441,8 @@ fn is_zero(bytes: &[u8]) -> bool
     ensures yes { result ≡ true → bytes.now ≡ zero_bytes (length bytes.now) }
     ensures no { result ≡ false → bytes.now ≢ zero_bytes (length bytes.now) }
 {
-    for i in 0..bytes.len() {
+    let first = skip_zeros(bytes, 0, bytes.len());
+    for i in first..bytes.len() {
         if bytes[i] != 0 {
             return false;
         }

@@ -1,7 +1,7 @@
 //! Equations in reduced form: the row whose pivot is column p stands at place p, and a flag says whether there is one.
 //!
 //! A pivot is the first nonzero coefficient of its row and a one, and every other row has a zero there.
-ghost use Rattle.std.specs.Prelude.{◌≡◌, ◌≢◌, ◌+◌, ◌++◌, ◌↔◌, ◌<◌, ◌≤◌, ℕ, IfOk, All, false, length, map, drop, replicate, slice_index_or};
+ghost use Rattle.std.specs.Prelude.{◌≡◌, ◌≢◌, ◌+◌, ◌++◌, ◌↔◌, ◌<◌, ◌≤◌, ℕ, IfOk, All, true, false, length, map, drop, replicate, slice_index_or};
 ghost use Rattle.sc_echelon.specs.Equation.{IsRow};
 ghost use Rattle.sc_echelon.specs.Kept.{known_by, IsKept};
 ghost use Rattle.sc_echelon.specs.Storage.{table_of, ChangedBelow, HasRows, IsStored, IsZeroOutside, MovedBelow};
@@ -34,6 +34,51 @@ pub(crate) fn blank_rows<F: Field>(
         rows.push(row)?;
     }
     Ok(rows)
+}
+
+// Whether the 16 flags from `at` on are off. Each is looked at, so that they are taken as one vector.
+#[inline(always)]
+fn are_off(flags: &[bool], at: usize) -> bool
+    requires { at + 16 ≤ length flags.now }
+    ensures { result ≡ true → (j : ℕ) → at ≤ j → j < at + 16 → slice_index_or flags.now j false ≡ false }
+{
+    let mut any = false;
+    for i in at..at + 16 {
+        any |= flags[i];
+    }
+    !any
+}
+
+// A place from `from` on that has flags alone before it that are off.
+#[inline(always)]
+fn skip_off(flags: &[bool], from: usize, end: usize) -> usize
+    requires order { from ≤ end }
+    requires within { end ≤ length flags.now }
+    ensures order { from ≤ result }
+    ensures within { result ≤ end }
+    ensures off { (j : ℕ) → from ≤ j → j < result → slice_index_or flags.now j false ≡ false }
+{
+    let mut at = from;
+    while end - at >= 16 && are_off(flags, at) {
+        at += 16;
+    }
+    at
+}
+
+// The first place from `from` on whose flag is on, or `end` where there is none before it.
+fn next_on(flags: &[bool], from: usize, end: usize) -> usize
+    requires order { from ≤ end }
+    requires within { end ≤ length flags.now }
+    ensures order { from ≤ result }
+    ensures within { result ≤ end }
+    ensures off { (j : ℕ) → from ≤ j → j < result → slice_index_or flags.now j false ≡ false }
+    ensures on { result < end → slice_index_or flags.now result false ≡ true }
+{
+    let mut at = skip_off(flags, from, end);
+    while at < end && !flags[at] {
+        at += 1;
+    }
+    at
 }
 
 // Clears the row at each pivot of the table that `used` and `rows` store. It looks at the columns alone that the row touches.
@@ -88,12 +133,12 @@ fn clear_column<F: Field>(
     ensures rights { All (λ r. length r.right ≡ length by.now.right) rows.new }
 {
     by.known();
-    for k in first..end {
-        if used[k] {
-            let row = &mut rows[k];
-            let factor = F::zero().sub(row.coeff(p));
-            row.add_multiple(factor, by, tables);
-        }
+    let mut k = next_on(used, first, end);
+    while k < end {
+        let row = &mut rows[k];
+        let factor = F::zero().sub(row.coeff(p));
+        row.add_multiple(factor, by, tables);
+        k = next_on(used, k + 1, end);
     }
 }
 
@@ -177,11 +222,11 @@ fn move_rows<F: Field>(rows: &mut [Equation<F>], used: &[bool], count: usize)
     ensures widths { All (λ r. length r.coeffs ≡ length used.now) rows.new }
     ensures rights { (w : ℕ) → All (λ r. length r.right ≡ w) rows.old → All (λ r. length r.right ≡ w) rows.new }
 {
-    for k in count..used.len() {
-        if used[k] {
-            rows[k].shift(count);
-            rows.swap(k - count, k);
-        }
+    let mut k = next_on(used, count, used.len());
+    while k < used.len() {
+        rows[k].shift(count);
+        rows.swap(k - count, k);
+        k = next_on(used, k + 1, used.len());
     }
 }
 
