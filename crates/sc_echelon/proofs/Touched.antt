@@ -170,14 +170,3 @@ IsTouched-read from end xs ys zs e f order within before after = record {
   before = λ j l. ap (λ (us : List ℕ). get_or us j 0) e ∙ before j l;
   after = λ j l. ap (λ (us : List ℕ). get_or us j 0) f ∙ after j l;
 }
-
--- ---- a wider range
-pub IsTouched-wider : (from end a b : ℕ) (xs : List ℕ) → a ≤ from → end ≤ b → b ≤ length xs → IsTouched from end xs → IsTouched a b xs
-IsTouched-wider from end a b xs la lb fits h =
-    let o = h.order in
-    record {
-      order = omega arith;
-      within = fits;
-      before = λ j l. h.before j (omega arith);
-      after = λ j l. h.after j (omega arith);
-    }

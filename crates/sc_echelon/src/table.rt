@@ -65,8 +65,24 @@ fn skip_off(flags: &[bool], from: usize, end: usize) -> usize
     at
 }
 
-// The first place from `from` on whose flag is on, or `end` where there is none before it.
+// The first place from `from` on whose flag is on, or `end` where there is none before it. Mostly it is `from` itself.
+#[inline(always)]
 fn next_on(flags: &[bool], from: usize, end: usize) -> usize
+    requires order { from ≤ end }
+    requires within { end ≤ length flags.now }
+    ensures order { from ≤ result }
+    ensures within { result ≤ end }
+    ensures off { (j : ℕ) → from ≤ j → j < result → slice_index_or flags.now j false ≡ false }
+    ensures on { result < end → slice_index_or flags.now result false ≡ true }
+{
+    if from < end && flags[from] {
+        return from;
+    }
+    pass_off(flags, from, end)
+}
+
+// The same, where it may be far.
+fn pass_off(flags: &[bool], from: usize, end: usize) -> usize
     requires order { from ≤ end }
     requires within { end ≤ length flags.now }
     ensures order { from ≤ result }

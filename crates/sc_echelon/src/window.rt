@@ -9,10 +9,6 @@ use sc_outside::NoMemory;
 use std::alloc::Global;
 use std::marker::Model;
 
-/// How many bytes a vector has. Where bytes are changed, whole vectors are, counted from the first byte: what one call stores
-/// the next loads at the same places, which the processor can do before the store is done.
-const LANES: usize = 32;
-
 /// So many bytes. They stand in a longer buffer, behind those that were forgotten, and behind them stand zeros.
 #[derive(Drop)]
 pub struct Window {
@@ -109,13 +105,11 @@ impl Window {
         ensures { self.new ≡ scaled_sum (F.act by.now.coefficient) self.old src.now }
     {
         by.coefficient.known();
-        let first = vector_start(from);
-        let last = vector_end(end, src.len());
         add_part(
             by,
             self.bytes.as_mut_slice(),
-            self.from + first,
-            &src[first..last],
+            self.from + from,
+            &src[from..end],
         );
     }
 
@@ -125,34 +119,8 @@ impl Window {
         ensures { self.new ≡ map (F.act by.now.coefficient) self.old }
     {
         by.coefficient.known();
-        let first = vector_start(from);
-        let last = vector_end(end, self.count);
-        scale_part(
-            by,
-            self.bytes.as_mut_slice(),
-            self.from + first,
-            last - first,
-        );
+        scale_part(by, self.bytes.as_mut_slice(), self.from + from, end - from);
     }
-}
-
-// The start of the vector that holds the byte at `from`.
-#[inline(always)]
-fn vector_start(from: usize) -> usize
-    ensures { result ≤ from }
-{
-    from - from % LANES
-}
-
-// The end of the vectors that hold the bytes before `end`, but at most `count`.
-#[inline(always)]
-fn vector_end(end: usize, count: usize) -> usize
-    requires { end ≤ count }
-    ensures order { end ≤ result }
-    ensures within { result ≤ count }
-{
-    let more = (LANES - end % LANES) % LANES;
-    if count - end < more { count } else { end + more }
 }
 
 // Writes some bytes at a place.
