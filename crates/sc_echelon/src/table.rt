@@ -49,7 +49,7 @@ fn are_off(flags: &[bool], at: usize) -> bool
     !any
 }
 
-// A place from `from` on that has flags alone before it that are off.
+// A place from `from` on that has flags alone before it that are off: as many sixteens of them are passed over as there are.
 #[inline(always)]
 fn skip_off(flags: &[bool], from: usize, end: usize) -> usize
     requires order { from ≤ end }
@@ -65,7 +65,37 @@ fn skip_off(flags: &[bool], from: usize, end: usize) -> usize
     at
 }
 
-// The first place from `from` on whose flag is on, or `end` where there is none before it. Mostly it is `from` itself.
+// The first place from `from` on whose flag is on, or `end` where there is none before it.
+#[inline(always)]
+fn step_to_on(flags: &[bool], from: usize, end: usize) -> usize
+    requires order { from ≤ end }
+    requires within { end ≤ length flags.now }
+    ensures order { from ≤ result }
+    ensures within { result ≤ end }
+    ensures off { (j : ℕ) → from ≤ j → j < result → slice_index_or flags.now j false ≡ false }
+    ensures on { result < end → slice_index_or flags.now result false ≡ true }
+{
+    let mut at = from;
+    while at < end && !flags[at] {
+        at += 1;
+    }
+    at
+}
+
+// The same, where it may be far.
+fn skip_to_on(flags: &[bool], from: usize, end: usize) -> usize
+    requires order { from ≤ end }
+    requires within { end ≤ length flags.now }
+    ensures order { from ≤ result }
+    ensures within { result ≤ end }
+    ensures off { (j : ℕ) → from ≤ j → j < result → slice_index_or flags.now j false ≡ false }
+    ensures on { result < end → slice_index_or flags.now result false ≡ true }
+{
+    let first = skip_off(flags, from, end);
+    step_to_on(flags, first, end)
+}
+
+// The same. The next 16 flags are looked at one by one, since mostly one of them is on.
 #[inline(always)]
 fn next_on(flags: &[bool], from: usize, end: usize) -> usize
     requires order { from ≤ end }
@@ -75,26 +105,12 @@ fn next_on(flags: &[bool], from: usize, end: usize) -> usize
     ensures off { (j : ℕ) → from ≤ j → j < result → slice_index_or flags.now j false ≡ false }
     ensures on { result < end → slice_index_or flags.now result false ≡ true }
 {
-    if from < end && flags[from] {
-        return from;
+    let near = if end - from < 16 { end } else { from + 16 };
+    let found = step_to_on(flags, from, near);
+    if found < near {
+        return found;
     }
-    pass_off(flags, from, end)
-}
-
-// The same, where it may be far.
-fn pass_off(flags: &[bool], from: usize, end: usize) -> usize
-    requires order { from ≤ end }
-    requires within { end ≤ length flags.now }
-    ensures order { from ≤ result }
-    ensures within { result ≤ end }
-    ensures off { (j : ℕ) → from ≤ j → j < result → slice_index_or flags.now j false ≡ false }
-    ensures on { result < end → slice_index_or flags.now result false ≡ true }
-{
-    let mut at = skip_off(flags, from, end);
-    while at < end && !flags[at] {
-        at += 1;
-    }
-    at
+    skip_to_on(flags, near, end)
 }
 
 // Clears the row at each pivot of the table that `used` and `rows` store. It looks at the columns alone that the row touches.
