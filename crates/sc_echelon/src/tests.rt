@@ -423,6 +423,50 @@ fn assert_least<F: Field>(
     Ok(())
 }
 
+// A row of `cols` numbers, zeros but for ones at these places.
+fn ones_at(alloc: Global, cols: usize, places: &[usize]) -> Result<Vec<u8>, Fail> {
+    let mut row = vec![in alloc; 0; cols]?;
+    for place in places {
+        *row.get_mut(*place).ok_or("no such column")? = 1;
+    }
+    Ok(row)
+}
+
+// Rows with a single coefficient, or with two that lie far apart, at the ends of vectors and beside them.
+fn lonely_columns(rt: &impl Abort, alloc: Global, cols: usize) -> Result<(), Fail> {
+    assert!(rt; 34 < cols && cols <= 360);
+    let last = cols - 1;
+    for col in [0, 15, 16, 31, 32, 33, last] {
+        let mut k = Knowledge::<Gf256>::start(alloc, cols, 1)?;
+        let row = ones_at(alloc, cols, &[col])?;
+        assert_eq!(rt; add(rt, alloc, &mut k, row.as_slice(), &[7])?, Added::New);
+        assert_value(rt, &k, col, Some(&[7]));
+        assert_eq!(rt; add(rt, alloc, &mut k, row.as_slice(), &[7])?, Added::Known);
+        assert_eq!(rt; add(rt, alloc, &mut k, row.as_slice(), &[8])?, Added::Clash);
+        forget(rt, &mut k, col);
+        assert_value(rt, &k, 0, Some(&[7]));
+    }
+    for col in [0, 15, 16, 31, 32, 33] {
+        let mut k = Knowledge::<Gf256>::start(alloc, cols, 1)?;
+        let both = ones_at(alloc, cols, &[col, last])?;
+        let behind = ones_at(alloc, cols, &[last])?;
+        assert_eq!(rt; add(rt, alloc, &mut k, both.as_slice(), &[5])?, Added::New);
+        assert_value(rt, &k, col, None);
+        assert_eq!(rt;
+            add(rt, alloc, &mut k, behind.as_slice(), &[3])?,
+            Added::New
+        );
+        assert_value(rt, &k, col, Some(&[6]));
+    }
+    Ok(())
+}
+
+#[test]
+fn columns_at_the_ends_of_vectors(rt: HostRuntime) -> Result<(), Fail> {
+    lonely_columns(&rt, rt.alloc(), 40)?;
+    lonely_columns(&rt, rt.alloc(), 360)
+}
+
 // One row that is not zero at its first and its last column: the last is its pivot.
 fn worked_matrix<F: Field>(rt: &impl Abort, alloc: Global) -> Result<(), Fail> {
     let mut m = Matrix::<F>::zeros(alloc, 1, 4)?;

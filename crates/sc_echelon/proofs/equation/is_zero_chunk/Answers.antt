@@ -1,4 +1,4 @@
-use Rattle.std.proofs.Common.{◌≡◌, ℕ, ◌+◌, not, eqb, true, false, length, map, take, drop, get_or, sym, ◌∙◌, arith, w8, inl, inr, Bool, refl}
+use Rattle.std.proofs.Common.{◌≡◌, ℕ, not, eqb, true, false, length, map, drop, get_or, sym, ◌∙◌, arith, w8, Bool, refl}
 use Rattle.std.proofs.lemmas.Bool.{eqb-true}
 use Rattle.std.proofs.lemmas.List.{length-drop, length-take-le}
 use Rattle.std.proofs.lemmas.Simd.{bitmask_splat, none_from_empty_mask}

@@ -1,8 +1,7 @@
-use Rattle.std.proofs.Common.{◌≡◌, ◌+◌, ◌-◌, ◌<◌, length, get_or, set, drop, replicate, subst, sym, ◌∙◌, ap, arith}
+use Rattle.std.proofs.Common.{◌≡◌, ◌+◌, ◌-◌, ◌<◌, length, get_or, set, drop, replicate, sym, ◌∙◌, ap, arith}
 use Rattle.std.proofs.lemmas.List.{length-set, length-append, length-drop, length-replicate}
 use Rattle.std.proofs.lemmas.List.Elements.{All-set}
 use Rattle.sc_echelon.specs.Steps.{shift_row}
-use Rattle.sc_echelon.specs.Storage.{MovedBelow}
 use Rattle.sc_echelon.proofs.StoredForget.{moved_on, moved_skip, All-swapped}
 use Rattle.sc_echelon.proofs.table.move_rows.Goals as goal
 
