@@ -3,7 +3,6 @@ pub mod RecordSteps
 pub mod EndSteps
 pub mod PromptSteps
 pub mod EquationSteps
-pub mod WindowSteps
 pub mod SumSteps
 pub mod ColumnSteps
 pub mod StandsSteps

@@ -21,13 +21,13 @@ use Rattle.sc_matrix.proofs.ByteSteps.{scaled_sum_is}
 use Rattle.sc_code.specs.Code.{Code, coefficient}
 use Rattle.sc_code.proofs.ParityLaws.{coefficient-past}
 use Rattle.sc_slots.specs.Rows.{row_of, parity_row}
-use Rattle.sc_echelon.specs.Knowledge.{Knowledge, IsSolution, IsBytes, zero_bytes, xor_bytes, act_bytes}
+use Rattle.sc_echelon.specs.Knowledge.{Knowledge, IsSolution, IsBytes, IsValueAt, zero_bytes, xor_bytes, act_bytes}
 use Rattle.sc_echelon.proofs.Bytes.{bytes_module}
 use Rattle.sc_echelon.proofs.DotLaws.{dot_value, dot_none, dot_same, dot-add}
 use Rattle.sc_repair.specs.Equations.{Gives, Learns, Refuses}
-use Rattle.sc_repair.specs.Columns.{HasStored, IsColumns, all_known}
+use Rattle.sc_repair.specs.Columns.{AreValuesAt, HasStored, IsColumns, all_known}
 use Rattle.sc_repair.specs.Sum.{placed, open_at, AreColumns, AreTerms, IsOpening}
-use Rattle.sc_repair.proofs.ColumnSteps.{all_known-iff, xor_back, cases, zero_says}
+use Rattle.sc_repair.proofs.ColumnSteps.{all_known-iff, value_where_whole, xor_back, cases, zero_says}
 use Rattle.sc_repair.proofs.EquationSteps.{row_of_entries, fewer_columns}
 
 bytes_are : (w : ℕ) → IsModule IsByte 0 1 bit_xor gf256_product (IsBytes w) (zero_bytes w) xor_bytes (act_bytes gf256_product)
@@ -477,6 +477,21 @@ module _ (known : Knowledge ℕ) (whole free : List Bool) (bytes row right : Lis
 -- the bytes of some columns
 pub part_long : (n w first k : ℕ) → first + k ≤ n → first * w + k * w ≤ n * w
 part_long n w first k room = (let e : (first + k) * w ≡ first * w + k * w = add-mul first k w in let le = fewer_columns (first + k) n w room in omega arith)
+
+-- every solution has the stored bytes of columns side by side that are whole
+pub values_where_whole : (known : Knowledge ℕ) (whole free : List Bool) (bytes : List ℕ) → IsColumns known whole free bytes → (first count : ℕ) → first + count ≤ known.cols
+    → ((i : ℕ) → i < count → get_or whole (first + i) false ≡ true) → AreValuesAt (all_known known whole bytes) first count (take (count * known.width) (drop (first * known.width) bytes))
+values_where_whole known whole free bytes h first count room here =
+    let n = known.cols in
+    let w = known.width in
+    let part : List ℕ = take (count * w) (drop (first * w) bytes) in
+    let long : length part ≡ count * w = length-take-le (count * w) (drop (first * w) bytes) (let l = length-drop (first * w) bytes in let p = part_long n w first count room in let b = h.byte_count in omega arith) in (
+      long,
+      λ i lt.
+          let same : get_or (cut count w part) i [] ≡ get_or (cut n w bytes) (first + i) [] =
+          ap (λ (l : List (List ℕ)). get_or l i []) (cut_part n w first count bytes h.byte_count room) ∙ get_or-take count (drop first (cut n w bytes)) i [] lt ∙ get_or-drop first (cut n w bytes) i [] in
+          subst (λ (b : List ℕ). IsValueAt gf256_product (all_known known whole bytes) (first + i) b) (sym same) (value_where_whole known whole free bytes h (first + i) (here i lt)),
+    )
 
 -- ---- equations that say the same
 

@@ -1,5 +1,5 @@
 -- Columns of which some are known outright, and what equations say of the others. For private contracts alone.
-use Rattle.std.specs.Prelude.{◌≡◌, ◌↔◌, ◌⊎◌, ℕ, ◌*◌, ◌<◌, ◌≤◌, Bool, true, false, List, [], ◌++◌, All, length, map, replicate, slice_index_or, slice_set, if◌then◌else◌}
+use Rattle.std.specs.Prelude.{◌≡◌, ◌↔◌, ◌⊎◌, ℕ, ◌+◌, ◌*◌, ◌<◌, ◌≤◌, Bool, true, false, List, [], ◌++◌, All, length, map, replicate, slice_index_or, slice_set, if◌then◌else◌}
 use Rattle.std.specs.List.{range_with_len}
 use Rattle.sc_field.specs.Gf256.{gf256_product}
 use Rattle.sc_matrix.specs.Module.{IsByte}
@@ -23,6 +23,12 @@ all_known known whole bytes = record {
   width = known.width;
   rows = map (stored_row known.cols known.width whole bytes) (range_with_len 0 known.cols) ++ known.rows;
 }
+
+-- every solution has these byte strings, which stand side by side, at the columns from one on
+abbrev pub AreValuesAt : Knowledge ℕ → ℕ → ℕ → List ℕ → Type 0
+AreValuesAt known first count bytes =
+    (length bytes ≡ count * known.width)
+    × ((i : ℕ) → i < count → IsValueAt gf256_product known (first + i) (slice_index_or (cut count known.width bytes) i []))
 
 -- the columns that are whole have the stored byte strings
 abbrev pub HasStored : List Bool → List (List ℕ) → List (List ℕ) → Type 0

@@ -2,7 +2,6 @@ pub mod Repairer
 pub mod Stands
 pub mod Equations
 pub mod Columns
-pub mod Window
 pub mod Sum
 pub mod Fit
 pub mod Takes

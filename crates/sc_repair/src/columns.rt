@@ -1,5 +1,5 @@
 //! What is known of the columns of symbols: the bytes of those that came, and what equations say of the others.
-ghost use Rattle.std.specs.Prelude.{◌≡◌, ◌↔◌, ◌+◌, ◌*◌, ◌<◌, ◌≤◌, ◌++◌, ℕ, List, IfOk, MatchOption, All, true, false, length, take, drop, replicate, slice_index_or, slice_set};
+ghost use Rattle.std.specs.Prelude.{◌≡◌, ◌↔◌, ◌+◌, ◌*◌, ◌<◌, ◌≤◌, ◌++◌, ⊤, ℕ, List, IfOk, MatchOption, All, true, false, length, take, drop, replicate, slice_index_or, slice_set};
 ghost use Rattle.sc_field.specs.Gf256.{gf256_product};
 ghost use Rattle.sc_field.specs.Scale.{scaled_sum};
 ghost use Rattle.sc_matrix.specs.Module.{IsByte};
@@ -7,12 +7,11 @@ ghost use Rattle.sc_matrix.specs.Vector.{IsVector};
 ghost use Rattle.sc_matrix.specs.Layout.{cut};
 ghost use Rattle.sc_echelon.specs.Knowledge.{IsSolution, IsBytes, IsValueAt, IsOpenAt, Forgets, zero_bytes};
 ghost use Rattle.sc_repair.specs.Equations.{Gives, Learns, Refuses};
-ghost use Rattle.sc_repair.specs.Columns.{IsColumns, IsFree, IsQuiet, SaysSame, all_known};
+ghost use Rattle.sc_repair.specs.Columns.{AreValuesAt, IsColumns, IsFree, IsQuiet, SaysSame, all_known};
 ghost use Rattle.sc_repair.specs.Sum.{placed};
 
 use super::sum::ParitySum;
-use super::window::Window;
-use sc_echelon::{Added, Knowledge};
+use sc_echelon::{Added, Knowledge, Window};
 use sc_field::{Field, Gf256, Multiplier, element_of, scale_add};
 use sc_outside::NoMemory;
 use std::alloc::Global;
@@ -64,7 +63,8 @@ impl Columns {
         let known = Knowledge::start(alloc, cols, width)?;
         let whole = vec![in alloc; false; cols]?;
         let free = vec![in alloc; true; cols]?;
-        let bytes = Window::zeros(alloc, cols * width)?;
+        let size = cols * width;
+        let bytes = Window::zeros(alloc, size, size)?;
         let sum = vec![in alloc; 0; width]?;
         let mut made = vec![in alloc; Multiplier::new(Gf256::zero()); 256]?;
         make_all(made.as_mut_slice());
@@ -206,6 +206,18 @@ impl Columns {
             return Some(&self.bytes.as_slice()[col * m..col * m + m]);
         }
         self.known.value_of(col)
+    }
+
+    // The bytes of `count` columns from column `first` on, side by side, if the bytes of all of them are stored.
+    pub(crate) fn stored(&self, first: usize, count: usize) -> Option<&[u8]>
+        requires { first + count ≤ self.now.cols }
+        ensures { MatchOption result ⊤ (λ bytes. AreValuesAt self.now first count bytes.now) }
+    {
+        if has_off(&self.whole[first..first + count]) {
+            return None;
+        }
+        let m = self.known.width();
+        Some(part_of(self.bytes.as_slice(), first, count, m))
     }
 
     // Forgets the first `count` columns, as a `Knowledge` does.

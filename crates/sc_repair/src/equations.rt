@@ -344,6 +344,10 @@ pub(crate) fn read_block(
     ensures unknown { result ≡ false → IsOpenPlace known.now k place }
 {
     known.known();
+    if let Some(bytes) = known.stored(place * k, k) {
+        block.copy_from_slice(bytes);
+        return true;
+    }
     for i in 0..k {
         match known.value_of(place * k + i) {
             None => return false,

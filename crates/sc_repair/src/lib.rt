@@ -8,7 +8,6 @@ mod put;
 mod repair;
 mod repairer;
 mod sum;
-mod window;
 
 pub use laws::{
     each_record_comes_back_or_is_missed, protected_captures_come_back, repairing_is_a_job,

@@ -15,11 +15,11 @@ loop-i-preserved c =
     let i = c.loop-i.i in
     let known = c.args.known.now in
     let old = c.loop-i.block in
-    let bytes = c.copy_from_slice.new.self in
+    let bytes = c.copy_from_slice-in-Some-value_of.new.self in
     let width : (i * m + m) - i * m ≡ m = omega arith in
     let room = row_within k m i c.loop-i-test.true in
     let count : length old ≡ k * m = c.loop-i.invariant.0 ∙ c.requires.block in
-    let long : length bytes ≡ m = c.copy_from_slice.ensures.len ∙ ap length (row_part k m old i (i * m) (omega arith) c.loop-i-test.true) ∙ length-row k m old i count c.loop-i-test.true in
+    let long : length bytes ≡ m = c.copy_from_slice-in-Some-value_of.ensures.len ∙ ap length (row_part k m old i (i * m) (omega arith) c.loop-i-test.true) ∙ length-row k m old i count c.loop-i-test.true in
     let written : cut k m (put_mid (i * m) ((i * m + m) - i * m) old bytes) ≡ set (cut k m old) i bytes =
     ap (λ (n : ℕ). cut k m (put_mid (i * m) n old bytes)) width ∙ cut-put_mid k m old i bytes count c.loop-i-test.true long in (
       length-put_mid (i * m) ((i * m + m) - i * m) old bytes (omega arith) (long ∙ sym width) ∙ c.loop-i.invariant.0,
@@ -30,9 +30,9 @@ loop-i-preserved c =
             subst (λ (b : List ℕ). IsValueAt gf256_product known (c.args.place * k + j) b) kept (c.loop-i.invariant.1 j low)
         | inr high ↦
             let same : i ≡ j = omega arith in
-            let here : c.in-Some.bytes.now ≡ get_or (cut k m (put_mid (i * m) ((i * m + m) - i * m) old bytes)) i [] =
-            sym (ap (λ (l : List (List ℕ)). get_or l i []) written ∙ get_or-set_same (cut k m old) i bytes [] (omega (arith, length-cut k m old, c.loop-i-test.true)) ∙ c.copy_from_slice.ensures.after) in
+            let here : c.in-Some-value_of.bytes.now ≡ get_or (cut k m (put_mid (i * m) ((i * m + m) - i * m) old bytes)) i [] =
+            sym (ap (λ (l : List (List ℕ)). get_or l i []) written ∙ get_or-set_same (cut k m old) i bytes [] (omega (arith, length-cut k m old, c.loop-i-test.true)) ∙ c.copy_from_slice-in-Some-value_of.ensures.after) in
             subst (λ (x : ℕ). IsValueAt gf256_product known (c.args.place * k + x) (get_or (cut k m (put_mid (i * m) ((i * m + m) - i * m) old bytes)) x [])) same
-            (subst (λ (b : List ℕ). IsValueAt gf256_product known (c.args.place * k + i) b) here c.in-Some.ensures)
+            (subst (λ (b : List ℕ). IsValueAt gf256_product known (c.args.place * k + i) b) here c.in-Some-value_of.ensures)
       ],
     )
