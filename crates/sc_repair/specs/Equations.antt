@@ -1,5 +1,5 @@
 -- What the steps of taking a slot do to what is known, for private contracts alone.
-use Rattle.std.specs.Prelude.{◌≡◌, ◌↔◌, ℕ, ◌+◌, ◌-◌, ◌*◌, ◌<◌, ◌≤◌, Bool, true, false, Option, Some, None, List, [], slice_index_or, bit_xor}
+use Rattle.std.specs.Prelude.{◌≡◌, ◌↔◌, ℕ, ◌+◌, ◌-◌, ◌*◌, ◌<◌, ◌≤◌, Bool, true, false, Option, Some, None, List, [], replicate, slice_index_or, slice_set, bit_xor}
 use Rattle.sc_field.specs.Gf256.{gf256_product}
 use Rattle.sc_matrix.specs.Vector.{combination}
 use Rattle.sc_matrix.specs.Layout.{cut}
@@ -18,6 +18,11 @@ Refuses old Has = (symbols : List (List ℕ)) → IsSolution gf256_product old s
 -- the symbols' sum with these coefficients
 abbrev pub Gives : ℕ → List ℕ → List ℕ → List (List ℕ) → Type 0
 Gives m row right symbols = combination 0 bit_xor gf256_product m row symbols ≡ right
+
+-- the columns from one on, of n, have these byte strings, which stand side by side
+abbrev pub HasColumns : ℕ → ℕ → ℕ → ℕ → List ℕ → List (List ℕ) → Type 0
+HasColumns n w first count bytes symbols =
+    (i : ℕ) → i < count → Gives w (slice_set (replicate n 0) (first + i) 1) (slice_index_or (cut count w bytes) i []) symbols
 
 -- the first symbols of the block at a place of n are these
 abbrev pub HasSymbols : ℕ → ℕ → ℕ → ℕ → ℕ → List ℕ → List (List ℕ) → Type 0

@@ -6,7 +6,7 @@ ghost use Rattle.sc_matrix.specs.Module.{IsByte};
 ghost use Rattle.sc_matrix.specs.Vector.{IsVector};
 ghost use Rattle.sc_matrix.specs.Layout.{cut};
 ghost use Rattle.sc_echelon.specs.Knowledge.{IsSolution, IsBytes, IsValueAt, IsOpenAt, Forgets, zero_bytes};
-ghost use Rattle.sc_repair.specs.Equations.{Gives, Learns, Refuses};
+ghost use Rattle.sc_repair.specs.Equations.{Gives, HasColumns, Learns, Refuses};
 ghost use Rattle.sc_repair.specs.Columns.{AreValuesAt, IsColumns, IsFree, IsQuiet, SaysSame, all_known};
 ghost use Rattle.sc_repair.specs.Sum.{placed};
 
@@ -160,6 +160,28 @@ impl Columns {
         let (m, _bytes) = (self.known.width(), self.bytes.len());
         self.whole[col] = true;
         self.bytes.write_at(col * m, bytes);
+        true
+    }
+
+    // The same of `count` columns from column `first` on, whose bytes stand side by side: it is as if their equations were
+    // told one after the other. False where something is known of any of them; then nothing changes.
+    pub(crate) fn store_all(&mut self, first: usize, count: usize, bytes: &[u8]) -> bool
+        requires cols { first + count ≤ self.old.cols }
+        requires bytes { length bytes.now ≡ count * self.old.width }
+        ensures cols { self.new.cols ≡ self.old.cols }
+        ensures width { self.new.width ≡ self.old.width }
+        ensures stores { result ≡ true → Learns self.old self.new (HasColumns self.old.cols self.old.width first count bytes.now) }
+        ensures stays { result ≡ false → self.new ≡ self.old }
+    {
+        if !are_unknown(
+            &self.whole[first..first + count],
+            &self.free[first..first + count],
+        ) {
+            return false;
+        }
+        let (m, _bytes) = (self.known.width(), self.bytes.len());
+        set_flags(self.whole.as_mut_slice(), first, count);
+        self.bytes.write_at(first * m, bytes);
         true
     }
 
@@ -475,6 +497,28 @@ fn shift_flags(flags: &mut [bool], count: usize, fill: bool)
     let kept = flags.len() - count;
     flags.copy_within(count.., 0);
     flags[kept..].fill(fill);
+}
+
+// Sets the flags of `count` columns from column `first` on.
+fn set_flags(flags: &mut [bool], first: usize, count: usize)
+    requires { first + count ≤ length flags.old }
+    ensures { flags.new ≡ take first flags.old ++ (replicate count true ++ drop (first + count) flags.old) }
+{
+    flags[first..first + count].fill(true);
+}
+
+// Whether no column is whole and each is free.
+fn are_unknown(whole: &[bool], free: &[bool]) -> bool
+    requires { length free.now ≡ length whole.now }
+    ensures yes { result ≡ true → (c : ℕ) → c < length whole.now → (slice_index_or whole.now c false ≡ false) × (slice_index_or free.now c false ≡ true) }
+    ensures no { result ≡ false → ((c : ℕ) → c < length whole.now → (slice_index_or whole.now c false ≡ false) × (slice_index_or free.now c false ≡ true)) → ⊥ }
+{
+    for c in 0..whole.len() {
+        if whole[c] || !free[c] {
+            return false;
+        }
+    }
+    true
 }
 
 // Whether a flag isn't set.

@@ -68,6 +68,9 @@ pub(crate) fn learn_block(
     ensures learns { result ≡ true → Learns known.old known.new (HasSymbols k m places place k block.now) }
     ensures refuses { result ≡ false → Refuses known.old (HasSymbols k m places place k block.now) }
 {
+    if known.store_all(place * k, k, block) {
+        return true;
+    }
     for i in 0..k {
         if !learn_symbol(known, row, place * k + i, &block[i * m..i * m + m]) {
             return false;

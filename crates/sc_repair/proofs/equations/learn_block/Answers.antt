@@ -4,6 +4,7 @@ use Rattle.sc_matrix.proofs.LayoutLaws.{row_part}
 use Rattle.sc_slots.specs.Rows.{symbol_row}
 use Rattle.sc_repair.specs.Equations.{Gives}
 use Rattle.sc_repair.proofs.EquationSteps.{symbol_row_is, learns_same, refuses_same, learns_more, refuses_more}
+use Rattle.sc_repair.proofs.RunSteps.{learns_block}
 use Rattle.sc_repair.proofs.equations.learn_block.Goals as goal
 
 pub returns-then-not-learn_symbol-clause-refuses : goal.returns-then-not-learn_symbol-clause-refuses
@@ -39,3 +40,7 @@ loop-i-preserved c =
           (row_part k m block i (i * m) (omega arith) c.loop-i-test.true)
           (c.learn_symbol.ensures.learns c.if-not-learn_symbol.false)),
     )
+
+pub returns-then-store_all-clause-learns : goal.returns-then-store_all-clause-learns
+returns-then-store_all-clause-learns c e =
+    learns_block c.args.known.now c.store_all.new.self c.args.k c.args.m c.args.places c.args.place c.args.block.now c.requires.place c.requires.cols c.requires.width (c.store_all.ensures.stores c.if-store_all.true)
