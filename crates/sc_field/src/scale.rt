@@ -63,6 +63,8 @@ fn add_by_bytes<F: Field>(dst: &mut [u8], c: F, src: &[u8])
 impl<F: Field> Multiplier<F> {
     /// Adds the coefficient times `src` to `dst`: each `dst[x]` becomes `dst[x]` xor
     /// `act(coefficient, src[x])`.
+    ///
+    /// It is one pass over the bytes, 32 at a time. For the coefficient 0 nothing is read, and for 1 nothing is looked up.
     pub fn scale_add(&self, dst: &mut [u8], src: &[u8])
         requires { length src.now ≡ length dst.old }
         ensures { dst.new ≡ scaled_sum (F.act self.now.coefficient) dst.old src.now }

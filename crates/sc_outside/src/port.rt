@@ -6,7 +6,8 @@ use super::error::Failed;
 
 /// An input and an output of bytes. Of this project.
 ///
-/// What it holds is optional: an object in memory tells it, an adapter over the machine doesn't.
+/// What it holds is optional: an object in memory tells it, an adapter over other streams as far as these tell it, and the
+/// process's own streams don't.
 /// It counts the faults of its reads and of its writes apart. The counts never fall, and a call that succeeds leaves both
 /// as they were.
 pub trait Port {

@@ -34,8 +34,8 @@ pub struct StreamPort<R, W> {
 pub type StdPort = StreamPort<Stdin, Stdout>;
 
 impl<R: Read + Drop, W: Write + Drop> StreamPort<R, W> {
-    /// The port over a reader and a writer. Its counts start at 0. Where there is no memory for the buffer, both are
-    /// dropped.
+    /// The port over a reader and a writer. Its counts start at 0. The buffer takes 262,144 bytes. Where there is no memory
+    /// for it, both are dropped.
     pub fn new(alloc: Global, input: R, output: W) -> Result<StreamPort<R, W>, NoMemory>
         ensures { IfOk result (λ port. port_told R.remaining W.contents port ≡ record {
           left = R.remaining input;

@@ -44,8 +44,8 @@ impl Head {
     }
 }
 
-/// Writes the head of a packet that has no padding, no extension, no CSRC words and no marker. With any payload behind
-/// it, it is read back with these fields.
+/// Writes the head of a packet that has no padding, no extension, no CSRC words and no marker (RFC 3550, 5.1), each field
+/// in network byte order. With any payload behind it, it is read back with these fields.
 pub fn write_head(out: &mut [u8; 12], payload_type: u8, sequence: u16, timestamp: u32, ssrc: u32)
     requires { payload_type < 128 }
     ensures head { out.new ≡ head_bytes (plain_head payload_type sequence timestamp ssrc) }
