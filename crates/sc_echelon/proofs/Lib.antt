@@ -6,6 +6,7 @@ pub mod Insert
 pub mod ForgetFront
 pub mod ValueOf
 pub mod Bytes
+pub mod Chunks
 pub mod KnowledgeLaws
 pub mod WindowSteps
 pub mod StorageLaws

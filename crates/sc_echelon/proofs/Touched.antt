@@ -170,3 +170,20 @@ IsTouched-read from end xs ys zs e f order within before after = record {
   before = λ j l. ap (λ (us : List ℕ). get_or us j 0) e ∙ before j l;
   after = λ j l. ap (λ (us : List ℕ). get_or us j 0) f ∙ after j l;
 }
+
+-- more zeros are left out on both sides
+pub IsTouched-trimmed : (xs ys : List ℕ) (a b from end : ℕ) → ys ≡ xs → IsTouched a b xs → from ≤ end → end ≤ b → ((j : ℕ) → a ≤ j → j < from → get_or ys j 0 ≡ 0) → ((j : ℕ) → end ≤ j → j < b → get_or ys j 0 ≡ 0) → IsTouched from end xs
+IsTouched-trimmed xs ys a b from end e h order within before after =
+    let same : (j : ℕ) → get_or ys j 0 ≡ 0 → get_or xs j 0 ≡ 0 = λ j z. ap (λ (us : List ℕ). get_or us j 0) (sym e) ∙ z in
+    record {
+      order = order;
+      within = (let w = h.within in omega arith);
+      before = λ j l. elim (cases_lt j a) [
+        | inl low ↦ h.before j low
+        | inr high ↦ same j (before j high l)
+      ];
+      after = λ j l. elim (cases_lt j b) [
+        | inl low ↦ same j (after j l low)
+        | inr past ↦ h.after j past
+      ];
+    }

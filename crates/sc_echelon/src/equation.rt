@@ -208,13 +208,38 @@ impl<F: Field> Equation<F> {
         self.end = self.end.max(other.end);
     }
 
-    // Multiplies the equation by `c`.
-    pub(crate) fn multiply(&mut self, c: F)
+    // Looks anew for the columns between which the coefficients lie that aren't zero.
+    fn trim(&mut self)
+        ensures { self.new ≡ self.old }
+    {
+        let numbers = self.numbers.as_slice();
+        let from = pass_zeros(numbers, self.from, self.end);
+        let end = end_of_others(numbers, from, self.end);
+        self.from = from;
+        self.end = end;
+    }
+
+    // Multiplies the equation by `c`. The zeros around its coefficients are left out from now on.
+    pub(crate) fn multiply(&mut self, c: F, tables: &mut Tables<F>)
         ensures { self.new ≡ times_row F.mul (act_bytes F.act) c self.old }
     {
-        c.known();
-        let by = Multiplier::new(c);
-        self.numbers.scale_between(&by, self.from, self.end);
+        self.trim();
+        match tables.find(c) {
+            Some(by) => self.multiply_by(by),
+            None => {
+                let by = Multiplier::new(c);
+                self.multiply_by(&by);
+                tables.keep(by);
+            }
+        }
+    }
+
+    // The same, by a multiplier.
+    fn multiply_by(&mut self, by: &Multiplier<F>)
+        ensures { self.new ≡ times_row F.mul (act_bytes F.act) by.now.coefficient self.old }
+    {
+        by.coefficient.known();
+        self.numbers.scale_between(by, self.from, self.end);
         by.scale(self.right.as_mut_slice());
     }
 
@@ -261,7 +286,31 @@ fn skip_zeros(xs: &[u8], from: usize, end: usize) -> usize
     at
 }
 
-// The same from the end on.
+// Whether the 16 bytes from `at` on are zero.
+#[inline(always)]
+fn is_zero_half(xs: &[u8], at: usize) -> bool
+    requires { at + 16 ≤ length xs.now }
+    ensures { result ≡ true → (j : ℕ) → at ≤ j → j < at + 16 → slice_index xs.now j ≡ 0 }
+{
+    u8x16::from_slice(&xs[at..]) == u8x16::splat(0)
+}
+
+// The place behind the next 16 bytes where these are zero, and else the place itself.
+#[inline(always)]
+fn skip_half(xs: &[u8], at: usize) -> usize
+    requires { at ≤ length xs.now }
+    ensures order { at ≤ result }
+    ensures within { result ≤ length xs.now }
+    ensures zeros { (j : ℕ) → at ≤ j → j < result → slice_index xs.now j ≡ 0 }
+{
+    if xs.len() - at >= 16 && is_zero_half(xs, at) {
+        at + 16
+    } else {
+        at
+    }
+}
+
+// As `skip_zeros`, from the end on.
 #[inline(always)]
 fn drop_zeros(xs: &[u8], from: usize, end: usize) -> usize
     requires order { from ≤ end }
@@ -277,18 +326,42 @@ fn drop_zeros(xs: &[u8], from: usize, end: usize) -> usize
     at
 }
 
+// The first place from `from` on that has another byte than zero, or `end` where there is none before it.
+fn pass_zeros(xs: &[u8], from: usize, end: usize) -> usize
+    requires order { from ≤ end }
+    requires within { end ≤ length xs.now }
+    ensures order { from ≤ result }
+    ensures within { result ≤ end }
+    ensures zeros { (j : ℕ) → from ≤ j → j < result → slice_index xs.now j ≡ 0 }
+{
+    let mut at = skip_zeros(xs, from, end);
+    while at < end && xs[at] == 0 {
+        at += 1;
+    }
+    at
+}
+
+// The end of the bytes from `from` up to `end`, without the zeros behind them.
+fn end_of_others(xs: &[u8], from: usize, end: usize) -> usize
+    requires order { from ≤ end }
+    requires within { end ≤ length xs.now }
+    ensures order { from ≤ result }
+    ensures within { result ≤ end }
+    ensures zeros { (j : ℕ) → result ≤ j → j < end → slice_index xs.now j ≡ 0 }
+{
+    let mut at = drop_zeros(xs, from, end);
+    while from < at && xs[at - 1] == 0 {
+        at -= 1;
+    }
+    at
+}
+
 // How many zeros the bytes begin with.
 fn zeros_before(xs: &[u8]) -> usize
     ensures within { result ≤ length xs.now }
     ensures zeros { (j : ℕ) → j < result → slice_index xs.now j ≡ 0 }
 {
-    let first = skip_zeros(xs, 0, xs.len());
-    for i in first..xs.len() {
-        if xs[i] != 0 {
-            return i;
-        }
-    }
-    xs.len()
+    pass_zeros(xs, 0, xs.len())
 }
 
 // The end of the bytes from `from` on, without the zeros behind them.
@@ -298,11 +371,7 @@ fn zeros_behind(xs: &[u8], from: usize) -> usize
     ensures within { result ≤ length xs.now }
     ensures zeros { (j : ℕ) → result ≤ j → slice_index xs.now j ≡ 0 }
 {
-    let mut end = drop_zeros(xs, from, xs.len());
-    while from < end && xs[end - 1] == 0 {
-        end -= 1;
-    }
-    end
+    end_of_others(xs, from, xs.len())
 }
 
 // Adds `c` times `one` to `first`, and `c` times `other` to `second`. `one` is zero but for the bytes from `from` up to `end`.
@@ -437,11 +506,14 @@ fn another_nonzero(xs: &[u8], from: usize, end: usize, place: usize) -> Option<u
     None
 }
 
-fn is_zero(bytes: &[u8]) -> bool
+/// Whether all bytes are zero.
+///
+/// It looks at 32 at a time, and at fewer at the end and where one of them is another.
+pub fn is_zero(bytes: &[u8]) -> bool
     ensures yes { result ≡ true → bytes.now ≡ zero_bytes (length bytes.now) }
     ensures no { result ≡ false → bytes.now ≢ zero_bytes (length bytes.now) }
 {
-    let first = skip_zeros(bytes, 0, bytes.len());
+    let first = skip_half(bytes, skip_zeros(bytes, 0, bytes.len()));
     for i in first..bytes.len() {
         if bytes[i] != 0 {
             return false;

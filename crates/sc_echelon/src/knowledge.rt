@@ -58,8 +58,8 @@ impl<F: Field> Model for Knowledge<F> {
 impl<F: Field> Knowledge<F> {
     /// Nothing is known of `cols` columns of `width` bytes.
     ///
-    /// It reserves a row of `cols` coefficients, room for as many that are forgotten, and `width` bytes for each column, one
-    /// row more to work on, and some 8 kB for prepared coefficients.
+    /// It reserves a row of `cols` coefficients, room for as many that are forgotten, and `width` bytes for each column, and one
+    /// row more to work on. It prepares the products of all coefficients, which takes some 8 kB.
     pub fn start(alloc: Global, cols: usize, width: usize) -> Result<Knowledge<F>, NoMemory>
         requires cols { cols ≤ MAX_COLS }
         requires width { 1 ≤ width }
@@ -69,7 +69,7 @@ impl<F: Field> Knowledge<F> {
         let used = vec![in alloc; false; cols]?;
         let rows = blank_rows(alloc, cols, cols, width)?;
         let work = Equation::zeros(alloc, cols, cols, width)?;
-        let tables = Tables::none(alloc)?;
+        let tables = Tables::all(alloc)?;
         Ok(Knowledge {
             width,
             used,

@@ -8,6 +8,7 @@ mod table;
 mod tables;
 mod window;
 
+pub use equation::is_zero;
 pub use knowledge::{Added, Knowledge, MAX_BYTES, MAX_COLS};
 pub use reduced::Reduced;
 pub use window::Window;

@@ -205,7 +205,7 @@ pub(crate) fn insert_row<F: Field>(
     ensures work_right { length work.new.right ≡ length work.old.right }
 {
     let lead = work.coeff(p);
-    work.multiply(lead.inv());
+    work.multiply(lead.inv(), tables);
     clear_column(rows, used, p, first, end, work, tables);
     mem::swap(&mut rows[p], work);
     used[p] = true;

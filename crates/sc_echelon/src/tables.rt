@@ -18,6 +18,13 @@ impl<F: Field> Tables<F> {
         Ok(Tables { made })
     }
 
+    // All are made.
+    pub(crate) fn all(alloc: Global) -> Result<Tables<F>, NoMemory> {
+        let mut tables = Tables::none(alloc)?;
+        make_all(tables.made.as_mut_slice());
+        Ok(tables)
+    }
+
     // The multiplier of `c`, if it was kept.
     pub(crate) fn find(&self, c: F) -> Option<&Multiplier<F>>
         ensures { MatchOption result ⊤ (λ by. by.now.coefficient ≡ c) }
@@ -37,6 +44,17 @@ impl<F: Field> Tables<F> {
         let place = by.coefficient.number() as usize;
         if place < self.made.len() {
             self.made[place] = by;
+        }
+    }
+}
+
+// Writes to each place the multiplier of the element of that number, if there is one.
+fn make_all<F: Field>(made: &mut [Multiplier<F>]) {
+    for i in 0..made.len() {
+        if i < 256 {
+            if let Some(c) = F::from_number(i as u8) {
+                made[i] = Multiplier::new(c);
+            }
         }
     }
 }

@@ -467,6 +467,20 @@ fn columns_at_the_ends_of_vectors(rt: HostRuntime) -> Result<(), Fail> {
     lonely_columns(&rt, rt.alloc(), 360)
 }
 
+// A byte other than zero is seen wherever it stands.
+#[test]
+fn one_byte_among_zeros(rt: HostRuntime) -> Result<(), Fail> {
+    for count in [0, 1, 15, 16, 17, 20, 32, 33, 48, 134] {
+        let zeros = vec![in rt.alloc(); 0; count]?;
+        assert!(&rt; is_zero(zeros.as_slice()), "{count} zeros");
+        for place in 0..count {
+            let bytes = ones_at(rt.alloc(), count, &[place])?;
+            assert!(&rt; !is_zero(bytes.as_slice()), "place {place} of {count}");
+        }
+    }
+    Ok(())
+}
+
 // One row that is not zero at its first and its last column: the last is its pivot.
 fn worked_matrix<F: Field>(rt: &impl Abort, alloc: Global) -> Result<(), Fail> {
     let mut m = Matrix::<F>::zeros(alloc, 1, 4)?;
