@@ -332,7 +332,7 @@ free_less known free free' h less vs us s values same = h vs us s values (λ c l
 ]))
 
 -- the stored columns are the same after an equation
-same_stored : (old new : Knowledge ℕ) (bytes : List ℕ) → new.cols ≡ old.cols → new.width ≡ old.width → cut new.cols new.width bytes ≡ cut old.cols old.width bytes
+pub same_stored : (old new : Knowledge ℕ) (bytes : List ℕ) → new.cols ≡ old.cols → new.width ≡ old.width → cut new.cols new.width bytes ≡ cut old.cols old.width bytes
 same_stored old new bytes cols width = ap₂ (λ (a b : ℕ). cut a b bytes) cols width
 
 pub columns_more : (old new : Knowledge ℕ) (whole free free' : List Bool) (bytes : List ℕ) → IsColumns old whole free bytes → new.cols ≡ old.cols → new.width ≡ old.width → length free' ≡ length free

@@ -5,6 +5,7 @@ pub mod PromptSteps
 pub mod EquationSteps
 pub mod SumSteps
 pub mod ColumnSteps
+pub mod SettleSteps
 pub mod RunSteps
 pub mod StandsSteps
 pub mod CallSteps

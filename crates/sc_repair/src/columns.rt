@@ -5,13 +5,13 @@ ghost use Rattle.sc_field.specs.Scale.{scaled_sum};
 ghost use Rattle.sc_matrix.specs.Module.{IsByte};
 ghost use Rattle.sc_matrix.specs.Vector.{IsVector};
 ghost use Rattle.sc_matrix.specs.Layout.{cut};
-ghost use Rattle.sc_echelon.specs.Knowledge.{IsSolution, IsBytes, IsValueAt, IsOpenAt, Forgets, zero_bytes};
+ghost use Rattle.sc_echelon.specs.Knowledge.{IsSolution, IsBytes, IsValueAt, IsOpenAt, Forgets};
 ghost use Rattle.sc_repair.specs.Equations.{Gives, HasColumns, Learns, Refuses};
 ghost use Rattle.sc_repair.specs.Columns.{AreValuesAt, IsColumns, IsFree, IsQuiet, SaysSame, all_known};
 ghost use Rattle.sc_repair.specs.Sum.{placed};
 
 use super::sum::ParitySum;
-use sc_echelon::{Added, Knowledge, Window};
+use sc_echelon::{Added, Knowledge, Window, is_zero};
 use sc_field::{Field, Gf256, Multiplier, element_of, scale_add};
 use sc_outside::NoMemory;
 use std::alloc::Global;
@@ -195,7 +195,27 @@ impl Columns {
         if !self.told {
             return;
         }
-        for col in 0..count {
+        let mut col = 0;
+        while col < count {
+            let end = if count - col < 16 { count } else { col + 16 };
+            self.settle_part(col, end);
+            col = end;
+        }
+        self.forget_settled();
+    }
+
+    // The same of the columns from `first` up to `end`.
+    fn settle_part(&mut self, first: usize, end: usize)
+        requires order { first ≤ end }
+        requires within { end ≤ self.old.cols }
+        ensures cols { self.new.cols ≡ self.old.cols }
+        ensures width { self.new.width ≡ self.old.width }
+        ensures same { (vs : List (List ℕ)) → IsSolution gf256_product self.new vs ↔ IsSolution gf256_product self.old vs }
+    {
+        if are_settled(&self.whole[first..end], &self.free[first..end]) {
+            return;
+        }
+        for col in first..end {
             self.settle(col);
         }
     }
@@ -216,6 +236,22 @@ impl Columns {
             self.bytes.write_at(col * m, bytes);
             self.whole[col] = true;
         }
+    }
+
+    // Forgets the equations once the bytes of each column that they speak of are stored, since they say nothing more then.
+    fn forget_settled(&mut self)
+        ensures cols { self.new.cols ≡ self.old.cols }
+        ensures width { self.new.width ≡ self.old.width }
+        ensures same { (vs : List (List ℕ)) → IsSolution gf256_product self.new vs ↔ IsSolution gf256_product self.old vs }
+    {
+        if !are_settled(self.whole.as_slice(), self.free.as_slice()) {
+            return;
+        }
+        self.known.known();
+        let cols = self.known.cols();
+        self.known.forget_front(cols);
+        set_all(self.free.as_mut_slice());
+        self.told = false;
     }
 
     // The bytes that every solution has at column `col`. None exactly where two solutions differ there.
@@ -338,18 +374,6 @@ fn touch(free: &mut [bool], row: &[Gf256]) -> bool
         }
     }
     touched
-}
-
-fn is_zero(bytes: &[u8]) -> bool
-    ensures yes { result ≡ true → bytes.now ≡ zero_bytes (length bytes.now) }
-    ensures no { result ≡ false → bytes.now ≡ zero_bytes (length bytes.now) → ⊥ }
-{
-    for i in 0..bytes.len() {
-        if bytes[i] != 0 {
-            return false;
-        }
-    }
-    true
 }
 
 // Adds an equation, of which `sum` is the right side. Both are lost.
@@ -507,6 +531,13 @@ fn set_flags(flags: &mut [bool], first: usize, count: usize)
     flags[first..first + count].fill(true);
 }
 
+// Sets all flags.
+fn set_all(flags: &mut [bool])
+    ensures { flags.new ≡ replicate (length flags.old) true }
+{
+    flags.fill(true);
+}
+
 // Whether no column is whole and each is free.
 fn are_unknown(whole: &[bool], free: &[bool]) -> bool
     requires { length free.now ≡ length whole.now }
@@ -519,6 +550,18 @@ fn are_unknown(whole: &[bool], free: &[bool]) -> bool
         }
     }
     true
+}
+
+// Whether each column is whole or free. All flags are looked at, so that they are taken as vectors.
+fn are_settled(whole: &[bool], free: &[bool]) -> bool
+    requires { length free.now ≡ length whole.now }
+    ensures { result ≡ true → (c : ℕ) → c < length whole.now → slice_index_or whole.now c false ≡ false → slice_index_or free.now c false ≡ true }
+{
+    let mut all = true;
+    for c in 0..whole.len() {
+        all &= whole[c] | free[c];
+    }
+    all
 }
 
 // Whether a flag isn't set.
