@@ -82,130 +82,140 @@ fn assert_fault(
     Ok(())
 }
 
+const CHANNELS: &[(&str, Option<FileFault>)] = &[
+    (CHANNEL, None),
+    ("[3,2,1]", Some(FileFault::Shape(Key::Channel))),
+    ("[3,2,1,2,9]", Some(FileFault::Shape(Key::Channel))),
+    ("[3,2,1.0,2]", Some(FileFault::Shape(Key::Channel))),
+    ("[3,2,1,2e0]", Some(FileFault::Shape(Key::Channel))),
+    ("[3,-2,1,2]", Some(FileFault::Shape(Key::Channel))),
+    ("[3,2,\"1\",2]", Some(FileFault::Shape(Key::Channel))),
+    ("3", Some(FileFault::Shape(Key::Channel))),
+    (
+        "[18446744073709551616,2,1,2]",
+        Some(FileFault::Shape(Key::Channel)),
+    ),
+    (
+        "[18446744073709551615,2,1,2]",
+        Some(FileFault::Range(Key::Channel)),
+    ),
+    ("[4294967299,2,1,2]", Some(FileFault::Range(Key::Channel))),
+    ("[3,1,2,2]", Some(FileFault::Range(Key::Channel))),
+    ("[3,2,0,2]", Some(FileFault::Range(Key::Channel))),
+    ("[256,2,1,2]", Some(FileFault::Range(Key::Channel))),
+    ("[50,2,1,41]", Some(FileFault::Range(Key::Channel))),
+];
+
 #[test]
 fn channels(rt: HostRuntime) -> Result<(), Fail> {
-    let shape = Some(FileFault::Shape(Key::Channel));
-    let range = Some(FileFault::Range(Key::Channel));
-    let table = [
-        (CHANNEL, None),
-        ("[3,2,1]", shape),
-        ("[3,2,1,2,9]", shape),
-        ("[3,2,1.0,2]", shape),
-        ("[3,2,1,2e0]", shape),
-        ("[3,-2,1,2]", shape),
-        ("[3,2,\"1\",2]", shape),
-        ("3", shape),
-        ("[18446744073709551616,2,1,2]", shape),
-        ("[18446744073709551615,2,1,2]", range),
-        ("[4294967299,2,1,2]", range),
-        ("[3,1,2,2]", range),
-        ("[3,2,0,2]", range),
-        ("[256,2,1,2]", range),
-        ("[50,2,1,41]", range),
-    ];
-    for (channel, expected) in table {
+    for row in CHANNELS {
+        let (channel, expected) = *row;
         assert_fault(&rt, rt.alloc(), [channel, "1", LAGS, "1"], expected)?;
     }
     Ok(())
 }
 
+const SYMBOLS: &[(&str, &str, FileFault)] = &[
+    ("null", "1", FileFault::Shape(Key::K)),
+    ("1.0", "1", FileFault::Shape(Key::K)),
+    ("1e0", "1", FileFault::Shape(Key::K)),
+    ("-0", "1", FileFault::Shape(Key::K)),
+    ("[1]", "1", FileFault::Shape(Key::K)),
+    ("0", "1", FileFault::Range(Key::K)),
+    ("64", "1", FileFault::Range(Key::K)),
+    ("2", "1", FileFault::Range(Key::Lags)),
+    ("1", "false", FileFault::Shape(Key::R)),
+    ("1", "1.5", FileFault::Shape(Key::R)),
+    ("1", "2", FileFault::Range(Key::Lags)),
+    ("1", "0", FileFault::Range(Key::Lags)),
+];
+
 #[test]
 fn numbers_of_symbols(rt: HostRuntime) -> Result<(), Fail> {
-    let table = [
-        ("null", "1", FileFault::Shape(Key::K)),
-        ("1.0", "1", FileFault::Shape(Key::K)),
-        ("1e0", "1", FileFault::Shape(Key::K)),
-        ("-0", "1", FileFault::Shape(Key::K)),
-        ("[1]", "1", FileFault::Shape(Key::K)),
-        ("0", "1", FileFault::Range(Key::K)),
-        ("64", "1", FileFault::Range(Key::K)),
-        ("2", "1", FileFault::Range(Key::Lags)),
-        ("1", "false", FileFault::Shape(Key::R)),
-        ("1", "1.5", FileFault::Shape(Key::R)),
-        ("1", "2", FileFault::Range(Key::Lags)),
-        ("1", "0", FileFault::Range(Key::Lags)),
-    ];
-    for (k, r, expected) in table {
+    for row in SYMBOLS {
+        let (k, r, expected) = *row;
         assert_fault(&rt, rt.alloc(), [CHANNEL, k, LAGS, r], Some(expected))?;
     }
     let nothing = [CHANNEL, "1", "[[[]]]", "0"];
     assert_fault(&rt, rt.alloc(), nothing, Some(FileFault::Range(Key::R)))
 }
 
+const MATRICES: &[(&str, Option<FileFault>)] = &[
+    ("[[0]]", Some(FileFault::Shape(Key::Lags))),
+    ("[[[0,true]]]", Some(FileFault::Shape(Key::Lags))),
+    ("[[[0],0]]", Some(FileFault::Shape(Key::Lags))),
+    ("[[[0]],{}]", Some(FileFault::Shape(Key::Lags))),
+    ("[[[-1]]]", Some(FileFault::Shape(Key::Lags))),
+    ("[]", Some(FileFault::Range(Key::Lags))),
+    ("[[]]", Some(FileFault::Range(Key::Lags))),
+    ("[[[]]]", Some(FileFault::Range(Key::Lags))),
+    ("[[[0]],[[0],[0]]]", Some(FileFault::Range(Key::Lags))),
+    ("[[[0]],[[0,0]]]", Some(FileFault::Range(Key::Lags))),
+    ("[[[255]]]", None),
+    ("[[[256]]]", Some(FileFault::Range(Key::Lags))),
+];
+
 #[test]
 fn matrices(rt: HostRuntime) -> Result<(), Fail> {
-    let shape = Some(FileFault::Shape(Key::Lags));
-    let range = Some(FileFault::Range(Key::Lags));
-    let table = [
-        ("[[0]]", shape),
-        ("[[[0,true]]]", shape),
-        ("[[[0],0]]", shape),
-        ("[[[0]],{}]", shape),
-        ("[[[-1]]]", shape),
-        ("[]", range),
-        ("[[]]", range),
-        ("[[[]]]", range),
-        ("[[[0]],[[0],[0]]]", range),
-        ("[[[0]],[[0,0]]]", range),
-        ("[[[255]]]", None),
-        ("[[[256]]]", range),
-    ];
-    for (lags, expected) in table {
+    for row in MATRICES {
+        let (lags, expected) = *row;
         assert_fault(&rt, rt.alloc(), [CHANNEL, "1", lags, "1"], expected)?;
     }
     Ok(())
 }
 
 // What isn't JSON, whole values, other and missing keys, and faults in their order.
+const FAULTS: &[(&str, FileFault)] = &[
+    ("", FileFault::NotJson),
+    ("{", FileFault::NotJson),
+    ("[]]", FileFault::NotJson),
+    ("{\"k\":01}", FileFault::NotJson),
+    ("{\"k\":1e999}", FileFault::NotJson),
+    ("[]", FileFault::Shape(Key::Whole)),
+    ("null", FileFault::Shape(Key::Whole)),
+    ("\"channel\"", FileFault::Shape(Key::Whole)),
+    ("{\"k\":1}", FileFault::Shape(Key::Channel)),
+    ("{}", FileFault::Shape(Key::Channel)),
+    ("{\"x\":1}", FileFault::Shape(Key::Other)),
+    ("{\"K\":1}", FileFault::Shape(Key::Other)),
+    (
+        "{\"channel\":[3,2,1,2],\"lags\":[],\"r\":1}",
+        FileFault::Shape(Key::K),
+    ),
+    (
+        "{\"channel\":[3,2,1,2],\"k\":1,\"r\":1}",
+        FileFault::Shape(Key::Lags),
+    ),
+    (
+        "{\"channel\":[3,2,1,2],\"k\":1,\"lags\":[]}",
+        FileFault::Shape(Key::R),
+    ),
+    (
+        "{\"channel\":[1,2,3,4],\"k\":0,\"lags\":[],\"r\":0.5}",
+        FileFault::Shape(Key::R),
+    ),
+    (
+        "{\"channel\":[1,2,3,4],\"k\":0,\"lags\":[],\"r\":0}",
+        FileFault::Range(Key::Channel),
+    ),
+    (
+        "{\"channel\":[3,2,1,2],\"k\":0,\"lags\":[],\"r\":0}",
+        FileFault::Range(Key::K),
+    ),
+    (
+        "{\"channel\":[3,2,1,2],\"k\":1,\"lags\":[],\"r\":0}",
+        FileFault::Range(Key::Lags),
+    ),
+    (
+        "{\"channel\":[3,2,1,2],\"k\":1,\"lags\":[[[0]],[[0]],[[1]]],\"loss\":1,\"r\":1}",
+        FileFault::Shape(Key::Other),
+    ),
+];
+
 #[test]
 fn faults_of_a_file(rt: HostRuntime) -> Result<(), Fail> {
-    let table = [
-        ("", FileFault::NotJson),
-        ("{", FileFault::NotJson),
-        ("[]]", FileFault::NotJson),
-        ("{\"k\":01}", FileFault::NotJson),
-        ("{\"k\":1e999}", FileFault::NotJson),
-        ("[]", FileFault::Shape(Key::Whole)),
-        ("null", FileFault::Shape(Key::Whole)),
-        ("\"channel\"", FileFault::Shape(Key::Whole)),
-        ("{\"k\":1}", FileFault::Shape(Key::Channel)),
-        ("{}", FileFault::Shape(Key::Channel)),
-        ("{\"x\":1}", FileFault::Shape(Key::Other)),
-        ("{\"K\":1}", FileFault::Shape(Key::Other)),
-        (
-            "{\"channel\":[3,2,1,2],\"lags\":[],\"r\":1}",
-            FileFault::Shape(Key::K),
-        ),
-        (
-            "{\"channel\":[3,2,1,2],\"k\":1,\"r\":1}",
-            FileFault::Shape(Key::Lags),
-        ),
-        (
-            "{\"channel\":[3,2,1,2],\"k\":1,\"lags\":[]}",
-            FileFault::Shape(Key::R),
-        ),
-        (
-            "{\"channel\":[1,2,3,4],\"k\":0,\"lags\":[],\"r\":0.5}",
-            FileFault::Shape(Key::R),
-        ),
-        (
-            "{\"channel\":[1,2,3,4],\"k\":0,\"lags\":[],\"r\":0}",
-            FileFault::Range(Key::Channel),
-        ),
-        (
-            "{\"channel\":[3,2,1,2],\"k\":0,\"lags\":[],\"r\":0}",
-            FileFault::Range(Key::K),
-        ),
-        (
-            "{\"channel\":[3,2,1,2],\"k\":1,\"lags\":[],\"r\":0}",
-            FileFault::Range(Key::Lags),
-        ),
-        (
-            "{\"channel\":[3,2,1,2],\"k\":1,\"lags\":[[[0]],[[0]],[[1]]],\"loss\":1,\"r\":1}",
-            FileFault::Shape(Key::Other),
-        ),
-    ];
-    for (text, expected) in table {
+    for row in FAULTS {
+        let (text, expected) = *row;
         let found = fault(rt.alloc(), text.as_bytes());
         assert!(rt; found == Some(expected), "{text}");
     }
@@ -214,14 +224,15 @@ fn faults_of_a_file(rt: HostRuntime) -> Result<(), Fail> {
 }
 
 // White space counts for nothing, and of a key that comes twice `serde_json` keeps the last value.
+const OTHER_TEXTS: &[&str] = &[
+    " { \"r\":1, \"lags\":[[[0]],[[0]],[[1]]],\n\"k\":1, \"channel\":[3,2,1,2] }\n",
+    "{\"k\":0,\"channel\":[3,2,1,2],\"k\":1,\"lags\":[[[0]],[[0]],[[1]]],\"r\":1}",
+    "{\"channel\":[3,2,1,2],\"\\u006b\":1,\"lags\":[[[0]],[[0]],[[1]]],\"r\":1}",
+];
+
 #[test]
 fn other_texts_of_a_file(rt: HostRuntime) -> Result<(), Fail> {
-    let table = [
-        " { \"r\":1, \"lags\":[[[0]],[[0]],[[1]]],\n\"k\":1, \"channel\":[3,2,1,2] }\n",
-        "{\"k\":0,\"channel\":[3,2,1,2],\"k\":1,\"lags\":[[[0]],[[0]],[[1]]],\"r\":1}",
-        "{\"channel\":[3,2,1,2],\"\\u006b\":1,\"lags\":[[[0]],[[0]],[[1]]],\"r\":1}",
-    ];
-    for text in table {
+    for text in OTHER_TEXTS {
         let file = read_code(rt.alloc(), text.as_bytes())?;
         let printed = print_code(rt.alloc(), &file)?;
         assert!(rt; printed.as_slice() == DELAYED.as_bytes(), "{text}");
@@ -265,21 +276,23 @@ fn largest_code_reads_back(rt: HostRuntime) -> Result<(), Fail> {
 }
 
 // One symbol or one matrix too many, in a text of real size.
+const SIZES: &[(usize, usize, usize, Option<FileFault>)] = &[
+    (1, 63, 65, None),
+    (63, 1, 65, None),
+    (32, 32, 65, None),
+    (1, 64, 1, Some(FileFault::Range(Key::R))),
+    (63, 2, 1, Some(FileFault::Range(Key::R))),
+    (32, 33, 1, Some(FileFault::Range(Key::R))),
+    (1, 1, 66, Some(FileFault::Range(Key::Lags))),
+    (1, 1, 0, Some(FileFault::Range(Key::Lags))),
+    (64, 1, 1, Some(FileFault::Range(Key::K))),
+];
+
 #[test]
 fn beyond_the_limits(rt: HostRuntime) -> Result<(), Fail> {
     let alloc = rt.alloc();
-    let table = [
-        (1, 63, 65, None),
-        (63, 1, 65, None),
-        (32, 32, 65, None),
-        (1, 64, 1, Some(FileFault::Range(Key::R))),
-        (63, 2, 1, Some(FileFault::Range(Key::R))),
-        (32, 33, 1, Some(FileFault::Range(Key::R))),
-        (1, 1, 66, Some(FileFault::Range(Key::Lags))),
-        (1, 1, 0, Some(FileFault::Range(Key::Lags))),
-        (64, 1, 1, Some(FileFault::Range(Key::K))),
-    ];
-    for (k, r, count, expected) in table {
+    for row in SIZES {
+        let (k, r, count, expected) = *row;
         let text = sized(alloc, k, r, count)?;
         assert!(rt;
             fault(alloc, text.as_bytes()) == expected,
@@ -314,85 +327,87 @@ fn listed(alloc: Global, item: &str, count: usize) -> Result<String, Fail> {
 }
 
 // The texts of certificates, and the first fault of other texts.
+const CERTIFICATES: &[(&str, Option<FileFault>)] = &[
+    ("{\"lost\":[0,1],\"period\":4}", None),
+    ("{\"lost\":[],\"period\":1}", None),
+    ("{\"lost\":[0,17,4095],\"period\":4096}", None),
+    ("", Some(FileFault::NotJson)),
+    ("{\"lost\":[0,1],\"period\":4}}", Some(FileFault::NotJson)),
+    ("[]", Some(FileFault::Shape(Key::Whole))),
+    (
+        "{\"lost\":[0,1],\"loss\":\"\",\"period\":4}",
+        Some(FileFault::Shape(Key::Other)),
+    ),
+    ("{\"channel\":1}", Some(FileFault::Shape(Key::Other))),
+    ("{}", Some(FileFault::Shape(Key::Lost))),
+    ("{\"period\":0}", Some(FileFault::Shape(Key::Lost))),
+    (
+        "{\"lost\":[0,1.0],\"period\":[]}",
+        Some(FileFault::Shape(Key::Lost)),
+    ),
+    (
+        "{\"lost\":[[0]],\"period\":4}",
+        Some(FileFault::Shape(Key::Lost)),
+    ),
+    (
+        "{\"lost\":0,\"period\":4}",
+        Some(FileFault::Shape(Key::Lost)),
+    ),
+    (
+        "{\"lost\":[-1],\"period\":4}",
+        Some(FileFault::Shape(Key::Lost)),
+    ),
+    ("{\"lost\":[1,0]}", Some(FileFault::Shape(Key::Period))),
+    (
+        "{\"lost\":[1,0],\"period\":\"4\"}",
+        Some(FileFault::Shape(Key::Period)),
+    ),
+    (
+        "{\"lost\":[1,0],\"period\":4e0}",
+        Some(FileFault::Shape(Key::Period)),
+    ),
+    (
+        "{\"lost\":[1,0],\"period\":0}",
+        Some(FileFault::Range(Key::Lost)),
+    ),
+    (
+        "{\"lost\":[1,1],\"period\":4}",
+        Some(FileFault::Range(Key::Lost)),
+    ),
+    (
+        "{\"lost\":[0,4],\"period\":4}",
+        Some(FileFault::Range(Key::Lost)),
+    ),
+    (
+        "{\"lost\":[0],\"period\":0}",
+        Some(FileFault::Range(Key::Lost)),
+    ),
+    (
+        "{\"lost\":[18446744073709551615],\"period\":18446744073709551615}",
+        Some(FileFault::Range(Key::Lost)),
+    ),
+    (
+        "{\"lost\":[4294967296],\"period\":4294967297}",
+        Some(FileFault::Range(Key::Period)),
+    ),
+    (
+        "{\"lost\":[],\"period\":0}",
+        Some(FileFault::Range(Key::Period)),
+    ),
+    (
+        "{\"lost\":[0,1],\"period\":4097}",
+        Some(FileFault::Range(Key::Period)),
+    ),
+    (
+        "{\"lost\":[0,1],\"period\":4294967300}",
+        Some(FileFault::Range(Key::Period)),
+    ),
+];
+
 #[test]
 fn certificates(rt: HostRuntime) -> Result<(), Fail> {
-    let table = [
-        ("{\"lost\":[0,1],\"period\":4}", None),
-        ("{\"lost\":[],\"period\":1}", None),
-        ("{\"lost\":[0,17,4095],\"period\":4096}", None),
-        ("", Some(FileFault::NotJson)),
-        ("{\"lost\":[0,1],\"period\":4}}", Some(FileFault::NotJson)),
-        ("[]", Some(FileFault::Shape(Key::Whole))),
-        (
-            "{\"lost\":[0,1],\"loss\":\"\",\"period\":4}",
-            Some(FileFault::Shape(Key::Other)),
-        ),
-        ("{\"channel\":1}", Some(FileFault::Shape(Key::Other))),
-        ("{}", Some(FileFault::Shape(Key::Lost))),
-        ("{\"period\":0}", Some(FileFault::Shape(Key::Lost))),
-        (
-            "{\"lost\":[0,1.0],\"period\":[]}",
-            Some(FileFault::Shape(Key::Lost)),
-        ),
-        (
-            "{\"lost\":[[0]],\"period\":4}",
-            Some(FileFault::Shape(Key::Lost)),
-        ),
-        (
-            "{\"lost\":0,\"period\":4}",
-            Some(FileFault::Shape(Key::Lost)),
-        ),
-        (
-            "{\"lost\":[-1],\"period\":4}",
-            Some(FileFault::Shape(Key::Lost)),
-        ),
-        ("{\"lost\":[1,0]}", Some(FileFault::Shape(Key::Period))),
-        (
-            "{\"lost\":[1,0],\"period\":\"4\"}",
-            Some(FileFault::Shape(Key::Period)),
-        ),
-        (
-            "{\"lost\":[1,0],\"period\":4e0}",
-            Some(FileFault::Shape(Key::Period)),
-        ),
-        (
-            "{\"lost\":[1,0],\"period\":0}",
-            Some(FileFault::Range(Key::Lost)),
-        ),
-        (
-            "{\"lost\":[1,1],\"period\":4}",
-            Some(FileFault::Range(Key::Lost)),
-        ),
-        (
-            "{\"lost\":[0,4],\"period\":4}",
-            Some(FileFault::Range(Key::Lost)),
-        ),
-        (
-            "{\"lost\":[0],\"period\":0}",
-            Some(FileFault::Range(Key::Lost)),
-        ),
-        (
-            "{\"lost\":[18446744073709551615],\"period\":18446744073709551615}",
-            Some(FileFault::Range(Key::Lost)),
-        ),
-        (
-            "{\"lost\":[4294967296],\"period\":4294967297}",
-            Some(FileFault::Range(Key::Period)),
-        ),
-        (
-            "{\"lost\":[],\"period\":0}",
-            Some(FileFault::Range(Key::Period)),
-        ),
-        (
-            "{\"lost\":[0,1],\"period\":4097}",
-            Some(FileFault::Range(Key::Period)),
-        ),
-        (
-            "{\"lost\":[0,1],\"period\":4294967300}",
-            Some(FileFault::Range(Key::Period)),
-        ),
-    ];
-    for (text, expected) in table {
+    for row in CERTIFICATES {
+        let (text, expected) = *row;
         match read_certificate(rt.alloc(), text.as_bytes()) {
             Ok(cert) => {
                 let printed = print_certificate(rt.alloc(), &cert)?;
@@ -425,28 +440,30 @@ fn longest_certificate_reads_back(rt: HostRuntime) -> Result<(), Fail> {
 }
 
 // What a text is as a loss file: its flags as a word, or the first fault.
+const LOSSES: &[(&str, Result<&str, FileFault>)] = &[
+    ("{\"loss\":\"\"}", Ok("")),
+    ("{\"loss\":\"0110\"}", Ok("0110")),
+    (" {\n\"loss\" : \"\\u00310\"} ", Ok("10")),
+    ("", Err(FileFault::NotJson)),
+    ("{\"loss\":\"0\"", Err(FileFault::NotJson)),
+    ("\"0110\"", Err(FileFault::Shape(Key::Whole))),
+    ("[]", Err(FileFault::Shape(Key::Whole))),
+    (
+        "{\"loss\":\"0\",\"lost\":[0]}",
+        Err(FileFault::Shape(Key::Other)),
+    ),
+    ("{\"Loss\":\"0\"}", Err(FileFault::Shape(Key::Other))),
+    ("{}", Err(FileFault::Shape(Key::Loss))),
+    ("{\"loss\":[0,1]}", Err(FileFault::Shape(Key::Loss))),
+    ("{\"loss\":110}", Err(FileFault::Shape(Key::Loss))),
+    ("{\"loss\":\"012\"}", Err(FileFault::Range(Key::Loss))),
+    ("{\"loss\":\"01 \"}", Err(FileFault::Range(Key::Loss))),
+];
+
 #[test]
 fn losses(rt: HostRuntime) -> Result<(), Fail> {
-    let table = [
-        ("{\"loss\":\"\"}", Ok("")),
-        ("{\"loss\":\"0110\"}", Ok("0110")),
-        (" {\n\"loss\" : \"\\u00310\"} ", Ok("10")),
-        ("", Err(FileFault::NotJson)),
-        ("{\"loss\":\"0\"", Err(FileFault::NotJson)),
-        ("\"0110\"", Err(FileFault::Shape(Key::Whole))),
-        ("[]", Err(FileFault::Shape(Key::Whole))),
-        (
-            "{\"loss\":\"0\",\"lost\":[0]}",
-            Err(FileFault::Shape(Key::Other)),
-        ),
-        ("{\"Loss\":\"0\"}", Err(FileFault::Shape(Key::Other))),
-        ("{}", Err(FileFault::Shape(Key::Loss))),
-        ("{\"loss\":[0,1]}", Err(FileFault::Shape(Key::Loss))),
-        ("{\"loss\":110}", Err(FileFault::Shape(Key::Loss))),
-        ("{\"loss\":\"012\"}", Err(FileFault::Range(Key::Loss))),
-        ("{\"loss\":\"01 \"}", Err(FileFault::Range(Key::Loss))),
-    ];
-    for (text, expected) in table {
+    for row in LOSSES {
+        let (text, expected) = *row;
         match (read_loss(rt.alloc(), text.as_bytes()), expected) {
             (Ok(flags), Ok(word)) => {
                 assert_eq!(rt; flags.len(), word.len());
@@ -515,22 +532,24 @@ fn refuses_a_longer_loss(rt: HostRuntime) -> Result<(), Fail> {
     Ok(())
 }
 
+const WORDS: &[(FileFault, &str)] = &[
+    (FileFault::NotJson, "not json"),
+    (FileFault::Shape(Key::Whole), "shape whole"),
+    (FileFault::Shape(Key::Other), "shape other"),
+    (FileFault::Shape(Key::Channel), "shape channel"),
+    (FileFault::Range(Key::K), "range k"),
+    (FileFault::Range(Key::Lags), "range lags"),
+    (FileFault::Range(Key::R), "range r"),
+    (FileFault::Range(Key::Lost), "range lost"),
+    (FileFault::Shape(Key::Period), "shape period"),
+    (FileFault::Shape(Key::Loss), "shape loss"),
+    (FileFault::Memory, "no memory"),
+];
+
 #[test]
 fn says_why(rt: HostRuntime) -> Result<(), Fail> {
-    let table = [
-        (FileFault::NotJson, "not json"),
-        (FileFault::Shape(Key::Whole), "shape whole"),
-        (FileFault::Shape(Key::Other), "shape other"),
-        (FileFault::Shape(Key::Channel), "shape channel"),
-        (FileFault::Range(Key::K), "range k"),
-        (FileFault::Range(Key::Lags), "range lags"),
-        (FileFault::Range(Key::R), "range r"),
-        (FileFault::Range(Key::Lost), "range lost"),
-        (FileFault::Shape(Key::Period), "shape period"),
-        (FileFault::Shape(Key::Loss), "shape loss"),
-        (FileFault::Memory, "no memory"),
-    ];
-    for (fault, expected) in table {
+    for row in WORDS {
+        let (fault, expected) = *row;
         let text = format!(in rt.alloc(); "{fault}")?;
         assert_eq!(rt; text.as_str(), expected);
     }

@@ -226,129 +226,143 @@ fn assert_ends(
     Ok(())
 }
 
+const DONE: Dropped = Dropped {
+    records: 4_000_000,
+    lost: 0,
+};
+
+const REPAIRED: Repaired = Repaired {
+    end: 4_000_000,
+    missed: 0,
+    strangers: 8_000_000,
+    repeats: 17,
+};
+
+const MISSING: Repaired = Repaired {
+    end: 4_294_967_295,
+    missed: 4_294_967_295,
+    strangers: 4_294_967_295,
+    repeats: 4_294_967_295,
+};
+
+const PROTECTED: Protected = Protected {
+    slots: 4_000_000,
+    rtcp: 4_294_967_295,
+    cut: 0,
+    strange: 17,
+};
+
+const TRIED: Trial = Trial {
+    slots: 10_040,
+    lost: 4_294_967_295,
+    equal: 10_000,
+    missed: 0,
+};
+
+const OPEN: Trial = Trial {
+    slots: 10_040,
+    lost: 4_294_967_295,
+    equal: 10_000,
+    missed: 1,
+};
+
 // Each end with its status and its note, as the program's page has them.
+const ENDS: &[(End, u8, &str)] = &[
+    (End::Thinned(DONE), 0, "records 4000000 lost 0\n"),
+    (End::Tried(TRIED), 0, "trial done\n"),
+    (End::Tried(OPEN), 5, "trial done\n"),
+    (
+        End::Protected(PROTECTED),
+        0,
+        "slots 4000000 rtcp 4294967295 cut 0 strange 17\n",
+    ),
+    (
+        End::FileRefused(Role::Code, FileFault::NotJson),
+        3,
+        "code not json\n",
+    ),
+    (
+        End::FileRefused(Role::Code, FileFault::Shape(Key::Whole)),
+        3,
+        "code shape whole\n",
+    ),
+    (
+        End::FileRefused(Role::Code, FileFault::Range(Key::Channel)),
+        3,
+        "code range channel\n",
+    ),
+    (
+        End::FileRefused(Role::Loss, FileFault::Range(Key::Loss)),
+        3,
+        "loss range loss\n",
+    ),
+    (End::FileTooLong(Role::Code), 4, "code limit 4194305\n"),
+    (End::FileTooLong(Role::Loss), 4, "loss limit 4194305\n"),
+    (End::PacketTooWide(94_616), 4, "limit packet 94616\n"),
+    (End::PacketTooLong(7, 1473), 4, "limit size 7 1473\n"),
+    (
+        End::FileTooLong(Role::Certificate),
+        4,
+        "certificate limit 4194305\n",
+    ),
+    (End::Accepted, 0, "accepted\n"),
+    (End::Refused, 1, "refused\n"),
+    (End::Bound(2, 4), 0, "bound 2/4\n"),
+    (
+        End::CertificateRefused(4095),
+        1,
+        "certificate refused at residue 4095\n",
+    ),
+    (
+        End::TooManyClasses(137_846_528_821),
+        11,
+        "classes 137846528821\n",
+    ),
+    (End::TooManyRecords, 4, "limit records 8000001\n"),
+    (End::TooManySlots(4_000_001), 4, "limit slots 4000001\n"),
+    (
+        End::Repaired(REPAIRED),
+        0,
+        "slots 4000000 missed 0 strangers 8000000 repeats 17\n",
+    ),
+    (
+        End::Repaired(MISSING),
+        5,
+        "slots 4294967295 missed 4294967295 strangers 4294967295 repeats 4294967295\n",
+    ),
+    (End::WrongCode(0), 3, "record 0 wrong code\n"),
+    (End::BadShape(7), 3, "record 7 bad shape\n"),
+    (End::OtherWidth(1), 3, "slot 1 other width\n"),
+    (End::OtherEnd(2), 3, "slot 2 other end\n"),
+    (End::BadBlock(3), 3, "slot 3 bad block\n"),
+    (End::Clash(4_000_000), 6, "slot 4000000 clash\n"),
+    (End::Generated(0), 0, "records 0\n"),
+    (End::Generated(3_999_960), 0, "records 3999960\n"),
+    (End::LossRefused(17), 1, "loss refused at window 17\n"),
+    (End::Usage, 2, "usage\n"),
+    (End::Capture(DumpFault::Preamble), 3, "preamble\n"),
+    (End::Capture(DumpFault::RecordHead(0)), 3, "record 0 head\n"),
+    (
+        End::Capture(DumpFault::RecordLength(10)),
+        3,
+        "record 10 length\n",
+    ),
+    (
+        End::Capture(DumpFault::Truncated(4_294_967_295)),
+        3,
+        "record 4294967295 cut\n",
+    ),
+    (End::MoreRecords(2), 3, "flags 2 more records\n"),
+    (End::FewerRecords(2, 1), 3, "flags 2 records 1\n"),
+    (End::ReadFault, 7, "read fault\n"),
+    (End::WriteFault, 8, "write fault\n"),
+    (End::NoMemory, 9, "no memory\n"),
+];
+
 #[test]
 fn every_end_has_its_note(rt: HostRuntime) -> Result<(), Fail> {
-    let done = Dropped {
-        records: 4_000_000,
-        lost: 0,
-    };
-    let repaired = Repaired {
-        end: 4_000_000,
-        missed: 0,
-        strangers: 8_000_000,
-        repeats: 17,
-    };
-    let missing = Repaired {
-        end: 4_294_967_295,
-        missed: 4_294_967_295,
-        strangers: 4_294_967_295,
-        repeats: 4_294_967_295,
-    };
-    let protected = Protected {
-        slots: 4_000_000,
-        rtcp: 4_294_967_295,
-        cut: 0,
-        strange: 17,
-    };
-    let tried = Trial {
-        slots: 10_040,
-        lost: 4_294_967_295,
-        equal: 10_000,
-        missed: 0,
-    };
-    let open = Trial { missed: 1, ..tried };
-    for (end, status, note) in [
-        (End::Thinned(done), 0, "records 4000000 lost 0\n"),
-        (End::Tried(tried), 0, "trial done\n"),
-        (End::Tried(open), 5, "trial done\n"),
-        (
-            End::Protected(protected),
-            0,
-            "slots 4000000 rtcp 4294967295 cut 0 strange 17\n",
-        ),
-        (
-            End::FileRefused(Role::Code, FileFault::NotJson),
-            3,
-            "code not json\n",
-        ),
-        (
-            End::FileRefused(Role::Code, FileFault::Shape(Key::Whole)),
-            3,
-            "code shape whole\n",
-        ),
-        (
-            End::FileRefused(Role::Code, FileFault::Range(Key::Channel)),
-            3,
-            "code range channel\n",
-        ),
-        (
-            End::FileRefused(Role::Loss, FileFault::Range(Key::Loss)),
-            3,
-            "loss range loss\n",
-        ),
-        (End::FileTooLong(Role::Code), 4, "code limit 4194305\n"),
-        (End::FileTooLong(Role::Loss), 4, "loss limit 4194305\n"),
-        (End::PacketTooWide(94_616), 4, "limit packet 94616\n"),
-        (End::PacketTooLong(7, 1473), 4, "limit size 7 1473\n"),
-        (
-            End::FileTooLong(Role::Certificate),
-            4,
-            "certificate limit 4194305\n",
-        ),
-        (End::Accepted, 0, "accepted\n"),
-        (End::Refused, 1, "refused\n"),
-        (End::Bound(2, 4), 0, "bound 2/4\n"),
-        (
-            End::CertificateRefused(4095),
-            1,
-            "certificate refused at residue 4095\n",
-        ),
-        (
-            End::TooManyClasses(137_846_528_821),
-            11,
-            "classes 137846528821\n",
-        ),
-        (End::TooManyRecords, 4, "limit records 8000001\n"),
-        (End::TooManySlots(4_000_001), 4, "limit slots 4000001\n"),
-        (
-            End::Repaired(repaired),
-            0,
-            "slots 4000000 missed 0 strangers 8000000 repeats 17\n",
-        ),
-        (
-            End::Repaired(missing),
-            5,
-            "slots 4294967295 missed 4294967295 strangers 4294967295 repeats 4294967295\n",
-        ),
-        (End::WrongCode(0), 3, "record 0 wrong code\n"),
-        (End::BadShape(7), 3, "record 7 bad shape\n"),
-        (End::OtherWidth(1), 3, "slot 1 other width\n"),
-        (End::OtherEnd(2), 3, "slot 2 other end\n"),
-        (End::BadBlock(3), 3, "slot 3 bad block\n"),
-        (End::Clash(4_000_000), 6, "slot 4000000 clash\n"),
-        (End::Generated(0), 0, "records 0\n"),
-        (End::Generated(3_999_960), 0, "records 3999960\n"),
-        (End::LossRefused(17), 1, "loss refused at window 17\n"),
-        (End::Usage, 2, "usage\n"),
-        (End::Capture(DumpFault::Preamble), 3, "preamble\n"),
-        (End::Capture(DumpFault::RecordHead(0)), 3, "record 0 head\n"),
-        (
-            End::Capture(DumpFault::RecordLength(10)),
-            3,
-            "record 10 length\n",
-        ),
-        (
-            End::Capture(DumpFault::Truncated(4_294_967_295)),
-            3,
-            "record 4294967295 cut\n",
-        ),
-        (End::MoreRecords(2), 3, "flags 2 more records\n"),
-        (End::FewerRecords(2, 1), 3, "flags 2 records 1\n"),
-        (End::ReadFault, 7, "read fault\n"),
-        (End::WriteFault, 8, "write fault\n"),
-        (End::NoMemory, 9, "no memory\n"),
-    ] {
+    for row in ENDS {
+        let (end, status, note) = *row;
         assert_ends(&rt, rt.alloc(), end, status, note)?;
     }
     Ok(())

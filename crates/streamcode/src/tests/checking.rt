@@ -30,54 +30,59 @@ const SMALLEST: &[u8] = b"{\"channel\":[2,1,1,1],\"k\":1,\"lags\":[[[0]],[[1]]],
 /// A channel with too many classes.
 const MANY: &[u8] = b"{\"channel\":[41,7,7,40],\"k\":1,\"lags\":[[[0]]],\"r\":1}";
 
+/// What it prints of the code that is late.
+const LATE_FAILS: &str = "fails class 2\nloss 1101\nstream 1 0 0 0\nother 0 0 0 0\n";
+
+const CHECKS: &[(&str, &[u8], u8, &str, &str)] = &[
+    (
+        "check c 1",
+        REPEAT,
+        0,
+        "meets 3 2 1 2 rate 1/2 classes 2\n",
+        "accepted\n",
+    ),
+    (
+        "check c 1",
+        REPEAT_TWO,
+        1,
+        "fails class 2\nloss 101\nstream 1 0 0\nother 0 0 0\n",
+        "refused\n",
+    ),
+    (
+        "check c 4",
+        PAIR,
+        0,
+        "meets 4 3 2 3 rate 2/5 classes 4\n",
+        "accepted\n",
+    ),
+    (
+        "check c 1",
+        PAIR_THREE,
+        1,
+        "fails class 2\nloss 1101\nstream 0,1 0,0 0,0 0,0\nother 0,0 0,0 0,0 0,0\n",
+        "refused\n",
+    ),
+    (
+        "check c 1",
+        SMALLEST,
+        0,
+        "meets 2 1 1 1 rate 1/2 classes 2\n",
+        "accepted\n",
+    ),
+    ("check c 1", LATE, 1, LATE_FAILS, "refused\n"),
+    ("check c 2", LATE, 1, LATE_FAILS, "refused\n"),
+    ("check c 64", LATE, 1, LATE_FAILS, "refused\n"),
+    ("check c 1", MANY, 11, "", "classes 3838381\n"),
+    ("check c 0", REPEAT, 2, "", "usage\n"),
+    ("check c 65", REPEAT, 2, "", "usage\n"),
+    ("check d 1", REPEAT, 7, "", "read fault\n"),
+    ("check c 1", b"[]", 3, "", "code shape whole\n"),
+];
+
 #[test]
 fn check_judges_codes(rt: HostRuntime) -> Result<(), Fail> {
-    let late = "fails class 2\nloss 1101\nstream 1 0 0 0\nother 0 0 0 0\n";
-    for (line, text, status, given, note) in [
-        (
-            "check c 1",
-            REPEAT,
-            0,
-            "meets 3 2 1 2 rate 1/2 classes 2\n",
-            "accepted\n",
-        ),
-        (
-            "check c 1",
-            REPEAT_TWO,
-            1,
-            "fails class 2\nloss 101\nstream 1 0 0\nother 0 0 0\n",
-            "refused\n",
-        ),
-        (
-            "check c 4",
-            PAIR,
-            0,
-            "meets 4 3 2 3 rate 2/5 classes 4\n",
-            "accepted\n",
-        ),
-        (
-            "check c 1",
-            PAIR_THREE,
-            1,
-            "fails class 2\nloss 1101\nstream 0,1 0,0 0,0 0,0\nother 0,0 0,0 0,0 0,0\n",
-            "refused\n",
-        ),
-        (
-            "check c 1",
-            SMALLEST,
-            0,
-            "meets 2 1 1 1 rate 1/2 classes 2\n",
-            "accepted\n",
-        ),
-        ("check c 1", LATE, 1, late, "refused\n"),
-        ("check c 2", LATE, 1, late, "refused\n"),
-        ("check c 64", LATE, 1, late, "refused\n"),
-        ("check c 1", MANY, 11, "", "classes 3838381\n"),
-        ("check c 0", REPEAT, 2, "", "usage\n"),
-        ("check c 65", REPEAT, 2, "", "usage\n"),
-        ("check d 1", REPEAT, 7, "", "read fault\n"),
-        ("check c 1", b"[]", 3, "", "code shape whole\n"),
-    ] {
+    for row in CHECKS {
+        let (line, text, status, given, note) = *row;
         let mut cabinet = one_file(rt.alloc(), "c", text)?;
         let answer = answer_by(&rt, rt.alloc(), line, &mut cabinet, &[], 1000, 1000)?;
         assert_answer(&rt, line, &answer, status, given.as_bytes(), note);
@@ -101,72 +106,98 @@ fn check_stops_at_a_failed_write(rt: HostRuntime) -> Result<(), Fail> {
     Ok(())
 }
 
+const CERTIFICATES: &[(&str, &[u8], u8, &str, &str)] = &[
+    (
+        "certify c d",
+        b"{\"lost\":[0,1],\"period\":4}",
+        0,
+        "bound 2/4 code 1/2 equal\n",
+        "accepted\n",
+    ),
+    (
+        "certify c d",
+        b"{\"lost\":[0,1],\"period\":3}",
+        1,
+        "",
+        "certificate refused at residue 1\n",
+    ),
+    (
+        "certify c d",
+        b"{\"lost\":[],\"period\":1}",
+        0,
+        "bound 1/1 code 1/2 below\n",
+        "accepted\n",
+    ),
+    (
+        "certify c d",
+        b"{\"lost\":[0,2],\"period\":9}",
+        1,
+        "",
+        "certificate refused at residue 0\n",
+    ),
+    ("certify c d", b"{", 3, "", "certificate not json\n"),
+    (
+        "certify c d",
+        b"{\"lost\":[1,0],\"period\":4}",
+        3,
+        "",
+        "certificate range lost\n",
+    ),
+    (
+        "certify c d",
+        b"{\"lost\":[]}",
+        3,
+        "",
+        "certificate shape period\n",
+    ),
+    (
+        "certify c e",
+        b"{\"lost\":[0,1],\"period\":4}",
+        7,
+        "",
+        "read fault\n",
+    ),
+    (
+        "certify e d",
+        b"{\"lost\":[0,1],\"period\":4}",
+        7,
+        "",
+        "read fault\n",
+    ),
+    (
+        "certify c",
+        b"{\"lost\":[0,1],\"period\":4}",
+        2,
+        "",
+        "usage\n",
+    ),
+    (
+        "bound 3 2 1 2",
+        b"{\"lost\":[0,1],\"period\":4}",
+        0,
+        "{\"lost\":[0,1],\"period\":4}\n",
+        "bound 2/4\n",
+    ),
+    (
+        "bound 2 1 1 1",
+        b"{\"lost\":[0,1],\"period\":4}",
+        0,
+        "{\"lost\":[0],\"period\":2}\n",
+        "bound 1/2\n",
+    ),
+    (
+        "bound 3 2 1 3",
+        b"{\"lost\":[0,1],\"period\":4}",
+        2,
+        "",
+        "usage\n",
+    ),
+];
+
 #[test]
 fn certify_judges_certificates(rt: HostRuntime) -> Result<(), Fail> {
-    let good: &[u8] = b"{\"lost\":[0,1],\"period\":4}";
-    for (line, cert, status, given, note) in [
-        (
-            "certify c d",
-            good,
-            0,
-            "bound 2/4 code 1/2 equal\n",
-            "accepted\n",
-        ),
-        (
-            "certify c d",
-            b"{\"lost\":[0,1],\"period\":3}",
-            1,
-            "",
-            "certificate refused at residue 1\n",
-        ),
-        (
-            "certify c d",
-            b"{\"lost\":[],\"period\":1}",
-            0,
-            "bound 1/1 code 1/2 below\n",
-            "accepted\n",
-        ),
-        (
-            "certify c d",
-            b"{\"lost\":[0,2],\"period\":9}",
-            1,
-            "",
-            "certificate refused at residue 0\n",
-        ),
-        ("certify c d", b"{", 3, "", "certificate not json\n"),
-        (
-            "certify c d",
-            b"{\"lost\":[1,0],\"period\":4}",
-            3,
-            "",
-            "certificate range lost\n",
-        ),
-        (
-            "certify c d",
-            b"{\"lost\":[]}",
-            3,
-            "",
-            "certificate shape period\n",
-        ),
-        ("certify c e", good, 7, "", "read fault\n"),
-        ("certify e d", good, 7, "", "read fault\n"),
-        ("certify c", good, 2, "", "usage\n"),
-        (
-            "bound 3 2 1 2",
-            good,
-            0,
-            "{\"lost\":[0,1],\"period\":4}\n",
-            "bound 2/4\n",
-        ),
-        (
-            "bound 2 1 1 1",
-            good,
-            0,
-            "{\"lost\":[0],\"period\":2}\n",
-            "bound 1/2\n",
-        ),
-        ("bound 3 2 1 3", good, 2, "", "usage\n"),
-    ] {
+    for row in CERTIFICATES {
+        let (line, cert, status, given, note) = *row;
         let mut cabinet = two_files(rt.alloc(), REPEAT, cert)?;
         let answer = answer_by(&rt, rt.alloc(), line, &mut cabinet, &[], 1000, 1000)?;
         assert_answer(&rt, line, &answer, status, given.as_bytes(), note);

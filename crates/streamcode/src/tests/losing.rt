@@ -174,6 +174,18 @@ fn thins_three_thousand_records(rt: HostRuntime) -> Result<(), Fail> {
     Ok(())
 }
 
+const FAULTS: &[(usize, u32, u8, &str, usize)] = &[
+    (1000, 0, 7, "read fault\n", 0),
+    (1000, 19, 7, "read fault\n", 0),
+    (1000, 20, 8, "write fault\n", 0),
+    (1000, 22, 8, "write fault\n", 14),
+    (1000, 27, 7, "read fault\n", 44),
+    (1000, 29, 7, "read fault\n", 44),
+    (1000, 30, 7, "read fault\n", 53),
+    (1000, 35, 7, "read fault\n", 53),
+    (50, 1000, 8, "write fault\n", 50),
+];
+
 #[test]
 fn faults_of_the_port_are_told(rt: HostRuntime) -> Result<(), Fail> {
     let all: &[&[u8]] = &[PREAMBLE, FIRST, SECOND, THIRD];
@@ -181,17 +193,8 @@ fn faults_of_the_port_are_told(rt: HostRuntime) -> Result<(), Fail> {
     let whole = joined(rt.alloc(), &[PREAMBLE, FIRST, THIRD])?;
     // In pieces of 7 bytes, 20 calls read the preamble, byte by byte within its line, and the next 7 write it. Then 3 read
     // each record, and what waits is written last. Of the bytes due so many are given.
-    for (room, fail, status, note, given) in [
-        (1000, 0, 7, "read fault\n", 0),
-        (1000, 19, 7, "read fault\n", 0),
-        (1000, 20, 8, "write fault\n", 0),
-        (1000, 22, 8, "write fault\n", 14),
-        (1000, 27, 7, "read fault\n", 44),
-        (1000, 29, 7, "read fault\n", 44),
-        (1000, 30, 7, "read fault\n", 53),
-        (1000, 35, 7, "read fault\n", 53),
-        (50, 1000, 8, "write fault\n", 50),
-    ] {
+    for row in FAULTS {
+        let (room, fail, status, note, given) = *row;
         let answer = lose_by(&rt, rt.alloc(), loss, all, room, fail)?;
         assert_cut(&rt, &answer, status, note, &whole, given);
     }

@@ -66,89 +66,95 @@ fn repair_of<R: Threads + Sync>(
 }
 
 // The code repeats each block two slots later. Slots of a capture are numbered from 0, with packet 1 in slot 0.
+const RUNS: &[(&[(u32, u8, u8, u8)], u8, &[u8], &str)] = &[
+    (
+        &[(0, 0, 1, 0), (1, 1, 0, 0), (2, 2, 0, 1)],
+        0,
+        &[1],
+        "slots 1 missed 0 strangers 0 repeats 0\n",
+    ),
+    // Slot 0 is lost; slots 0 and 1; and slots 0 and 2, which the channel doesn't admit.
+    (
+        &[(1, 1, 0, 0), (2, 2, 0, 1)],
+        0,
+        &[1],
+        "slots 1 missed 0 strangers 0 repeats 0\n",
+    ),
+    (
+        &[(2, 2, 0, 1)],
+        0,
+        &[1],
+        "slots 1 missed 0 strangers 0 repeats 0\n",
+    ),
+    (
+        &[(1, 1, 0, 0)],
+        5,
+        &[],
+        "slots 1 missed 1 strangers 0 repeats 0\n",
+    ),
+    // Both slots that flush are lost.
+    (
+        &[(0, 0, 1, 0), (1, 0, 2, 0)],
+        0,
+        &[1, 2],
+        "slots 2 missed 0 strangers 0 repeats 0\n",
+    ),
+    // Of five packets the first four slots are taken out.
+    (
+        &[(4, 0, 5, 3), (5, 1, 0, 4), (6, 2, 0, 5)],
+        5,
+        &[3, 4, 5],
+        "slots 5 missed 2 strangers 0 repeats 0\n",
+    ),
+    // A slot comes twice, and once more behind the last.
+    (
+        &[
+            (0, 0, 1, 0),
+            (0, 0, 1, 0),
+            (1, 1, 0, 0),
+            (2, 2, 0, 1),
+            (0, 0, 1, 0),
+        ],
+        0,
+        &[1],
+        "slots 1 missed 0 strangers 0 repeats 2\n",
+    ),
+    // A gap of a thousand slots.
+    (
+        &[(0, 0, 1, 0), (1000, 0, 3, 2)],
+        5,
+        &[1, 2, 3],
+        "slots 1001 missed 998 strangers 0 repeats 0\n",
+    ),
+    (&[(4_000_000, 0, 1, 0)], 4, &[], "limit slots 4000000\n"),
+    (
+        &[(3_999_999, 2, 0, 1)],
+        5,
+        &[1],
+        "slots 3999998 missed 3999997 strangers 0 repeats 0\n",
+    ),
+    // A source slot behind those that flush; and a claim that is another &[1].
+    (
+        &[(0, 0, 1, 0), (1, 1, 0, 0), (2, 2, 0, 1), (3, 0, 0, 0)],
+        3,
+        &[1],
+        "slot 3 other end\n",
+    ),
+    (
+        &[(0, 0, 1, 0), (1, 1, 0, 0), (2, 1, 0, 1)],
+        3,
+        &[1],
+        "slot 2 other end\n",
+    ),
+    (&[(0, 0, 1, 2)], 6, &[], "slot 0 clash\n"),
+    (&[(0, 0, 1, 0), (2, 0, 3, 2)], 6, &[1], "slot 2 clash\n"),
+    (&[], 0, &[], "slots 0 missed 0 strangers 0 repeats 0\n"),
+];
+
 #[test]
 fn repairs_what_came(rt: HostRuntime) -> Result<(), Fail> {
-    let whole: &[(u32, u8, u8, u8)] = &[(0, 0, 1, 0), (1, 1, 0, 0), (2, 2, 0, 1)];
-    let one: &[u8] = &[1];
-    for (came, status, ids, note) in [
-        (whole, 0, one, "slots 1 missed 0 strangers 0 repeats 0\n"),
-        // Slot 0 is lost; slots 0 and 1; and slots 0 and 2, which the channel doesn't admit.
-        (
-            &[(1, 1, 0, 0), (2, 2, 0, 1)],
-            0,
-            one,
-            "slots 1 missed 0 strangers 0 repeats 0\n",
-        ),
-        (
-            &[(2, 2, 0, 1)],
-            0,
-            one,
-            "slots 1 missed 0 strangers 0 repeats 0\n",
-        ),
-        (
-            &[(1, 1, 0, 0)],
-            5,
-            &[],
-            "slots 1 missed 1 strangers 0 repeats 0\n",
-        ),
-        // Both slots that flush are lost.
-        (
-            &[(0, 0, 1, 0), (1, 0, 2, 0)],
-            0,
-            &[1, 2],
-            "slots 2 missed 0 strangers 0 repeats 0\n",
-        ),
-        // Of five packets the first four slots are taken out.
-        (
-            &[(4, 0, 5, 3), (5, 1, 0, 4), (6, 2, 0, 5)],
-            5,
-            &[3, 4, 5],
-            "slots 5 missed 2 strangers 0 repeats 0\n",
-        ),
-        // A slot comes twice, and once more behind the last.
-        (
-            &[
-                (0, 0, 1, 0),
-                (0, 0, 1, 0),
-                (1, 1, 0, 0),
-                (2, 2, 0, 1),
-                (0, 0, 1, 0),
-            ],
-            0,
-            one,
-            "slots 1 missed 0 strangers 0 repeats 2\n",
-        ),
-        // A gap of a thousand slots.
-        (
-            &[(0, 0, 1, 0), (1000, 0, 3, 2)],
-            5,
-            &[1, 2, 3],
-            "slots 1001 missed 998 strangers 0 repeats 0\n",
-        ),
-        (&[(4_000_000, 0, 1, 0)], 4, &[], "limit slots 4000000\n"),
-        (
-            &[(3_999_999, 2, 0, 1)],
-            5,
-            one,
-            "slots 3999998 missed 3999997 strangers 0 repeats 0\n",
-        ),
-        // A source slot behind those that flush; and a claim that is another one.
-        (
-            &[(0, 0, 1, 0), (1, 1, 0, 0), (2, 2, 0, 1), (3, 0, 0, 0)],
-            3,
-            one,
-            "slot 3 other end\n",
-        ),
-        (
-            &[(0, 0, 1, 0), (1, 1, 0, 0), (2, 1, 0, 1)],
-            3,
-            one,
-            "slot 2 other end\n",
-        ),
-        (&[(0, 0, 1, 2)], 6, &[], "slot 0 clash\n"),
-        (&[(0, 0, 1, 0), (2, 0, 3, 2)], 6, one, "slot 2 clash\n"),
-        (&[], 0, &[], "slots 0 missed 0 strangers 0 repeats 0\n"),
-    ] {
+    for row in RUNS {
+        let (came, status, ids, note) = *row;
         let input = slots(rt.alloc(), came)?;
         let given = packets(rt.alloc(), ids)?;
         let answer = repair_of(&rt, rt.alloc(), &[&input], 1000, 1000)?;
@@ -218,27 +224,28 @@ fn repairs_and_refuses_records(rt: HostRuntime) -> Result<(), Fail> {
 }
 
 // One byte of that capture is another one. It has 44 bytes before slot 0, and 68 a slot.
+const CHANGES: &[(usize, u8, u8, &[u8], &str)] = &[
+    // Of slot 0 the version, the sequence, k, r, the end byte, m, and the last byte of its parity.
+    (66, 2, 0, &[1], "slots 1 missed 0 strangers 1 repeats 0\n"),
+    (55, 1, 3, &[], "record 0 bad shape\n"),
+    (67, 2, 3, &[], "record 0 wrong code\n"),
+    (68, 2, 3, &[], "record 0 wrong code\n"),
+    (69, 1, 3, &[], "record 0 bad shape\n"),
+    (71, 19, 3, &[], "record 0 bad shape\n"),
+    (111, 1, 6, &[], "slot 0 clash\n"),
+    // The length of its frame.
+    (77, 11, 3, &[], "slot 0 bad block\n"),
+    // The end bytes of the slots 1 and 2, and the last byte of slot 2's parity.
+    (137, 2, 3, &[1], "slot 1 other end\n"),
+    (205, 1, 3, &[1], "slot 2 other end\n"),
+    (205, 3, 3, &[1], "record 2 bad shape\n"),
+    (247, 0x79, 6, &[1], "slot 2 clash\n"),
+];
+
 #[test]
 fn repair_refuses_changed_bytes(rt: HostRuntime) -> Result<(), Fail> {
-    let none: &[u8] = &[];
-    let one: &[u8] = &[1];
-    for (place, byte, status, ids, note) in [
-        // Of slot 0 the version, the sequence, k, r, the end byte, m, and the last byte of its parity.
-        (66, 2, 0, one, "slots 1 missed 0 strangers 1 repeats 0\n"),
-        (55, 1, 3, none, "record 0 bad shape\n"),
-        (67, 2, 3, none, "record 0 wrong code\n"),
-        (68, 2, 3, none, "record 0 wrong code\n"),
-        (69, 1, 3, none, "record 0 bad shape\n"),
-        (71, 19, 3, none, "record 0 bad shape\n"),
-        (111, 1, 6, none, "slot 0 clash\n"),
-        // The length of its frame.
-        (77, 11, 3, none, "slot 0 bad block\n"),
-        // The end bytes of the slots 1 and 2, and the last byte of slot 2's parity.
-        (137, 2, 3, one, "slot 1 other end\n"),
-        (205, 1, 3, one, "slot 2 other end\n"),
-        (205, 3, 3, one, "record 2 bad shape\n"),
-        (247, 0x79, 6, one, "slot 2 clash\n"),
-    ] {
+    for row in CHANGES {
+        let (place, byte, status, ids, note) = *row;
         let mut input = slots(rt.alloc(), &[(0, 0, 1, 0), (1, 1, 0, 0), (2, 2, 0, 1)])?;
         match input.get_mut(place) {
             Some(there) => *there = byte,
@@ -273,70 +280,78 @@ fn repair_judges_its_file(rt: HostRuntime) -> Result<(), Fail> {
 
 // Slot 0 is lost, so its packet is known once slot 2 was read, and it is written before the next read. In pieces of 7 bytes, 20
 // calls read the preamble, 7 write it, 11 read each slot, 3 write the packet, and the last one finds the end.
+const FAULTS: &[(usize, u32, u8, &str, usize)] = &[
+    (1000, 0, 7, "read fault\n", 0),
+    (1000, 19, 7, "read fault\n", 0),
+    (1000, 20, 8, "write fault\n", 0),
+    (1000, 26, 8, "write fault\n", 42),
+    (1000, 27, 7, "read fault\n", 44),
+    (1000, 48, 7, "read fault\n", 44),
+    (1000, 49, 8, "write fault\n", 44),
+    (1000, 51, 8, "write fault\n", 58),
+    (1000, 52, 7, "read fault\n", 64),
+    (1000, 53, 0, "slots 1 missed 0 strangers 0 repeats 0\n", 64),
+    (50, 1000, 8, "write fault\n", 50),
+    (0, 1000, 8, "write fault\n", 0),
+];
+
 #[test]
 fn faults_of_repair_are_told(rt: HostRuntime) -> Result<(), Fail> {
     let input = slots(rt.alloc(), &[(1, 1, 0, 0), (2, 2, 0, 1)])?;
     let whole = packets(rt.alloc(), &[1])?;
-    for (room, fail, status, note, given) in [
-        (1000, 0, 7, "read fault\n", 0),
-        (1000, 19, 7, "read fault\n", 0),
-        (1000, 20, 8, "write fault\n", 0),
-        (1000, 26, 8, "write fault\n", 42),
-        (1000, 27, 7, "read fault\n", 44),
-        (1000, 48, 7, "read fault\n", 44),
-        (1000, 49, 8, "write fault\n", 44),
-        (1000, 51, 8, "write fault\n", 58),
-        (1000, 52, 7, "read fault\n", 64),
-        (1000, 53, 0, "slots 1 missed 0 strangers 0 repeats 0\n", 64),
-        (50, 1000, 8, "write fault\n", 50),
-        (0, 1000, 8, "write fault\n", 0),
-    ] {
+    for row in FAULTS {
+        let (room, fail, status, note, given) = *row;
         let answer = repair_of(&rt, rt.alloc(), &[&input], room, fail)?;
         assert_cut(&rt, &answer, status, note, &whole, given);
     }
     Ok(())
 }
 
+const WIDTH: Unfit = Unfit::OtherWidth {
+    slot: 3_999_999,
+    was: 18,
+    now: 19,
+};
+
+const END: Unfit = Unfit::OtherEnd {
+    slot: 7,
+    was: EndState::Known(6),
+    now: 0,
+};
+
 // Each end of repairing with its status and its note.
+const REFUSALS: &[(RepairEnd, u8, &str)] = &[
+    (
+        RepairEnd::Dump(DumpFault::Truncated(2)),
+        3,
+        "record 2 cut\n",
+    ),
+    (RepairEnd::Dump(DumpFault::Read), 7, "read fault\n"),
+    (RepairEnd::Dump(DumpFault::Memory), 9, "no memory\n"),
+    (RepairEnd::TooManyRecords, 4, "limit records 8000001\n"),
+    (
+        RepairEnd::WrongCode(7_999_999),
+        3,
+        "record 7999999 wrong code\n",
+    ),
+    (RepairEnd::BadShape(0), 3, "record 0 bad shape\n"),
+    (
+        RepairEnd::TooManySlots(4_294_967_295),
+        4,
+        "limit slots 4294967295\n",
+    ),
+    (RepairEnd::Unfit(WIDTH), 3, "slot 3999999 other width\n"),
+    (RepairEnd::Unfit(END), 3, "slot 7 other end\n"),
+    (RepairEnd::Clash(17), 6, "slot 17 clash\n"),
+    (RepairEnd::BadBlock(17), 3, "slot 17 bad block\n"),
+    (RepairEnd::Write, 8, "write fault\n"),
+    (RepairEnd::Memory, 9, "no memory\n"),
+];
+
 #[test]
 fn every_fault_of_repair_has_its_note(rt: HostRuntime) -> Result<(), Fail> {
-    let width = Unfit::OtherWidth {
-        slot: 3_999_999,
-        was: 18,
-        now: 19,
-    };
-    let end = Unfit::OtherEnd {
-        slot: 7,
-        was: EndState::Known(6),
-        now: 0,
-    };
-    for (fault, status, note) in [
-        (
-            RepairEnd::Dump(DumpFault::Truncated(2)),
-            3,
-            "record 2 cut\n",
-        ),
-        (RepairEnd::Dump(DumpFault::Read), 7, "read fault\n"),
-        (RepairEnd::Dump(DumpFault::Memory), 9, "no memory\n"),
-        (RepairEnd::TooManyRecords, 4, "limit records 8000001\n"),
-        (
-            RepairEnd::WrongCode(7_999_999),
-            3,
-            "record 7999999 wrong code\n",
-        ),
-        (RepairEnd::BadShape(0), 3, "record 0 bad shape\n"),
-        (
-            RepairEnd::TooManySlots(4_294_967_295),
-            4,
-            "limit slots 4294967295\n",
-        ),
-        (RepairEnd::Unfit(width), 3, "slot 3999999 other width\n"),
-        (RepairEnd::Unfit(end), 3, "slot 7 other end\n"),
-        (RepairEnd::Clash(17), 6, "slot 17 clash\n"),
-        (RepairEnd::BadBlock(17), 3, "slot 17 bad block\n"),
-        (RepairEnd::Write, 8, "write fault\n"),
-        (RepairEnd::Memory, 9, "no memory\n"),
-    ] {
+    for row in REFUSALS {
+        let (fault, status, note) = *row;
         let mut notes = MemorySink::new(rt.alloc(), 128, Vec::new(rt.alloc()))?;
         assert_eq!(rt; conclude(&mut notes, End::of_repair(Err(fault))), status);
         assert_eq!(rt; notes.given(), note.as_bytes());

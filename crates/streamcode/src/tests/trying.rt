@@ -27,64 +27,67 @@ fn tried<R: Threads + Sync>(
     answer_by(rt, alloc, line, &mut cabinet, &[b"input"], 1000, 1000)
 }
 
+const TRIALS: &[(&str, &[u8], u8, &str)] = &[
+    (
+        "trial c 42 4 12",
+        CODE,
+        0,
+        "slots 6 lost 2 equal 4 missed 0\n",
+    ),
+    (
+        "trial c 42 60 200",
+        CODE,
+        0,
+        "slots 62 lost 24 equal 60 missed 0\n",
+    ),
+    (
+        "trial c 42 0 1472",
+        CODE,
+        0,
+        "slots 2 lost 2 equal 0 missed 0\n",
+    ),
+    (
+        "trial c 18446744073709551615 30 13",
+        CODE,
+        0,
+        "slots 32 lost 6 equal 30 missed 0\n",
+    ),
+    (
+        "trial c 42 4 12",
+        OPEN,
+        0,
+        "slots 6 lost 2 equal 4 missed 0\n",
+    ),
+    (
+        "trial c 2 9 12",
+        OPEN,
+        5,
+        "slots 11 lost 4 equal 8 missed 1\n",
+    ),
+    (
+        "trial c 42 60 20",
+        OPEN,
+        5,
+        "slots 62 lost 28 equal 54 missed 6\n",
+    ),
+    (
+        "trial c 1 40 30",
+        PAIR,
+        0,
+        "slots 43 lost 11 equal 40 missed 0\n",
+    ),
+    (
+        "trial c 7 40 30",
+        PAIR,
+        5,
+        "slots 43 lost 16 equal 38 missed 2\n",
+    ),
+];
+
 #[test]
 fn trial_counts_what_comes_back(rt: HostRuntime) -> Result<(), Fail> {
-    for (line, code, status, given) in [
-        (
-            "trial c 42 4 12",
-            CODE,
-            0,
-            "slots 6 lost 2 equal 4 missed 0\n",
-        ),
-        (
-            "trial c 42 60 200",
-            CODE,
-            0,
-            "slots 62 lost 24 equal 60 missed 0\n",
-        ),
-        (
-            "trial c 42 0 1472",
-            CODE,
-            0,
-            "slots 2 lost 2 equal 0 missed 0\n",
-        ),
-        (
-            "trial c 18446744073709551615 30 13",
-            CODE,
-            0,
-            "slots 32 lost 6 equal 30 missed 0\n",
-        ),
-        (
-            "trial c 42 4 12",
-            OPEN,
-            0,
-            "slots 6 lost 2 equal 4 missed 0\n",
-        ),
-        (
-            "trial c 2 9 12",
-            OPEN,
-            5,
-            "slots 11 lost 4 equal 8 missed 1\n",
-        ),
-        (
-            "trial c 42 60 20",
-            OPEN,
-            5,
-            "slots 62 lost 28 equal 54 missed 6\n",
-        ),
-        (
-            "trial c 1 40 30",
-            PAIR,
-            0,
-            "slots 43 lost 11 equal 40 missed 0\n",
-        ),
-        (
-            "trial c 7 40 30",
-            PAIR,
-            5,
-            "slots 43 lost 16 equal 38 missed 2\n",
-        ),
-    ] {
+    for row in TRIALS {
+        let (line, code, status, given) = *row;
         let answer = tried(&rt, rt.alloc(), line, code)?;
         assert_answer(&rt, line, &answer, status, given.as_bytes(), "trial done\n");
     }
