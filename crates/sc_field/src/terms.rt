@@ -93,7 +93,9 @@ pub(crate) fn write_sum<F: Field>(
     } else if dst.len() >= 4 {
         write_short(dst, first, rest, src, fresh, 4);
     } else if dst.len() > 0 {
-        write_few(dst, first, rest, src, fresh);
+        // A copy of the term, so that the term of `scale_add` itself needs no place in memory.
+        let few = *first;
+        write_few(dst, &few, rest, src, fresh);
     }
 }
 
