@@ -213,18 +213,21 @@ mod tests {
     }
 
     // Counts of classes as Python's `math.comb(t, n - 1) + 1` gives them.
+    const COUNTS: &[(u32, u32, u32, u32, u64)] = &[
+        (2, 1, 1, 1, 2),
+        (3, 2, 1, 2, 2),
+        (4, 3, 2, 3, 4),
+        (41, 4, 4, 40, 9881),
+        (41, 40, 40, 40, 41),
+        (255, 12, 11, 22, 646647),
+        (41, 7, 7, 40, 3838381),
+        (41, 21, 21, 40, 137846528821),
+    ];
+
     #[test]
     fn counts_classes(rt: HostRuntime) -> Result<(), Fail> {
-        for (w, b, n, t, want) in [
-            (2, 1, 1, 1, 2),
-            (3, 2, 1, 2, 2),
-            (4, 3, 2, 3, 4),
-            (41, 4, 4, 40, 9881),
-            (41, 40, 40, 40, 41),
-            (255, 12, 11, 22, 646647),
-            (41, 7, 7, 40, 3838381),
-            (41, 21, 21, 40, 137846528821),
-        ] {
+        for row in COUNTS {
+            let (w, b, n, t, want) = *row;
             let channel = Channel::new(w, b, n, t)?;
             let count = match loss_classes(&channel) {
                 Ok(classes) => u64::from(classes.count()),

@@ -82,22 +82,25 @@ mod tests {
         Ok(flags)
     }
 
+    const LOSSES: &[(u32, u32, u32, u32, &str, Option<usize>)] = &[
+        (3, 2, 1, 2, "", None),
+        (3, 2, 1, 2, "010", None),
+        (3, 2, 1, 2, "101", Some(0)),
+        (3, 2, 1, 2, "11", None),
+        (3, 2, 1, 2, "0101", Some(1)),
+        (3, 2, 1, 2, "1100110", None),
+        (4, 3, 2, 3, "0111", None),
+        (4, 3, 2, 3, "1101", Some(0)),
+        (4, 3, 2, 3, "001101", Some(2)),
+        (4, 3, 2, 3, "1001", None),
+        (5, 2, 1, 2, "101", Some(0)),
+        (5, 2, 1, 2, "0101", Some(0)),
+    ];
+
     #[test]
     fn judges_losses(rt: HostRuntime) -> Result<(), Fail> {
-        for (w, b, n, t, word, want) in [
-            (3, 2, 1, 2, "", None),
-            (3, 2, 1, 2, "010", None),
-            (3, 2, 1, 2, "101", Some(0)),
-            (3, 2, 1, 2, "11", None),
-            (3, 2, 1, 2, "0101", Some(1)),
-            (3, 2, 1, 2, "1100110", None),
-            (4, 3, 2, 3, "0111", None),
-            (4, 3, 2, 3, "1101", Some(0)),
-            (4, 3, 2, 3, "001101", Some(2)),
-            (4, 3, 2, 3, "1001", None),
-            (5, 2, 1, 2, "101", Some(0)),
-            (5, 2, 1, 2, "0101", Some(0)),
-        ] {
+        for row in LOSSES {
+            let (w, b, n, t, word, want) = *row;
             let channel = Channel::new(w, b, n, t)?;
             let flags = flags_of(rt.alloc(), word)?;
             assert_eq!(rt;

@@ -11,44 +11,35 @@ fn refusal(bytes: &[u8]) -> Option<NotRtp> {
     RtpView::read(bytes).err()
 }
 
+const REFUSALS: &[(&[u8], NotRtp)] = &[
+    (b"", NotRtp::Short),
+    (b"\x80\0\0\0\0\0\0\0\0\0\0", NotRtp::Short),
+    (b"\x40\0\0\0\0\0\0\0\0\0\0", NotRtp::Short),
+    // version 1, 0 and 3, whatever else is wrong
+    (b"\x40\0\0\0\0\0\0\0\0\0\0\0", NotRtp::Version),
+    (b"\x3f\0\0\0\0\0\0\0\0\0\0\0", NotRtp::Version),
+    (b"\xff\0\0\0\0\0\0\0\0\0\0\0", NotRtp::Version),
+    // one CSRC word that isn't there, also where an extension isn't there either
+    (b"\x81\0\0\0\0\0\0\0\0\0\0\0", NotRtp::Csrc),
+    (b"\xb1\0\0\0\0\0\0\0\0\0\0\0\x01\x02\x03", NotRtp::Csrc),
+    // an extension with no bytes, with three, and with a word less than it counts
+    (b"\x90\0\0\0\0\0\0\0\0\0\0\0", NotRtp::Extension),
+    (b"\xb0\0\0\0\0\0\0\0\0\0\0\0\xbe\xde\0", NotRtp::Extension),
+    (
+        b"\xb0\0\0\0\0\0\0\0\0\0\0\0\xbe\xde\0\x02\x01\x02\x03\x04\x05\x06\x07",
+        NotRtp::Extension,
+    ),
+    // padding with no byte, with a count of 0, and with one that reaches into the header
+    (b"\xa0\0\0\0\0\0\0\0\0\0\0\0", NotRtp::Padding),
+    (b"\xa0\0\0\0\0\0\0\0\0\0\0\x01", NotRtp::Padding),
+    (b"\xa0\0\0\0\0\0\0\0\0\0\0\0\x01\0", NotRtp::Padding),
+    (b"\xa0\0\0\0\0\0\0\0\0\0\0\0\x01\x03", NotRtp::Padding),
+];
+
 #[test]
 fn refuses_by_the_first_case(rt: HostRuntime) {
-    for (bytes, want) in [
-        (b"".as_slice(), NotRtp::Short),
-        (b"\x80\0\0\0\0\0\0\0\0\0\0".as_slice(), NotRtp::Short),
-        (b"\x40\0\0\0\0\0\0\0\0\0\0".as_slice(), NotRtp::Short),
-        // version 1, 0 and 3, whatever else is wrong
-        (b"\x40\0\0\0\0\0\0\0\0\0\0\0".as_slice(), NotRtp::Version),
-        (b"\x3f\0\0\0\0\0\0\0\0\0\0\0".as_slice(), NotRtp::Version),
-        (b"\xff\0\0\0\0\0\0\0\0\0\0\0".as_slice(), NotRtp::Version),
-        // one CSRC word that isn't there, also where an extension isn't there either
-        (b"\x81\0\0\0\0\0\0\0\0\0\0\0".as_slice(), NotRtp::Csrc),
-        (
-            b"\xb1\0\0\0\0\0\0\0\0\0\0\0\x01\x02\x03".as_slice(),
-            NotRtp::Csrc,
-        ),
-        // an extension with no bytes, with three, and with a word less than it counts
-        (b"\x90\0\0\0\0\0\0\0\0\0\0\0".as_slice(), NotRtp::Extension),
-        (
-            b"\xb0\0\0\0\0\0\0\0\0\0\0\0\xbe\xde\0".as_slice(),
-            NotRtp::Extension,
-        ),
-        (
-            b"\xb0\0\0\0\0\0\0\0\0\0\0\0\xbe\xde\0\x02\x01\x02\x03\x04\x05\x06\x07".as_slice(),
-            NotRtp::Extension,
-        ),
-        // padding with no byte, with a count of 0, and with one that reaches into the header
-        (b"\xa0\0\0\0\0\0\0\0\0\0\0\0".as_slice(), NotRtp::Padding),
-        (b"\xa0\0\0\0\0\0\0\0\0\0\0\x01".as_slice(), NotRtp::Padding),
-        (
-            b"\xa0\0\0\0\0\0\0\0\0\0\0\0\x01\0".as_slice(),
-            NotRtp::Padding,
-        ),
-        (
-            b"\xa0\0\0\0\0\0\0\0\0\0\0\0\x01\x03".as_slice(),
-            NotRtp::Padding,
-        ),
-    ] {
+    for row in REFUSALS {
+        let (bytes, want) = *row;
         assert_eq!(rt; refusal(bytes), Some(want), "at {bytes:?}");
     }
 }
@@ -70,64 +61,63 @@ fn reads(rt: &impl Abort, packet: &[u8], want: Want) {
     assert_eq!(rt; view.payload(), payload);
 }
 
+const PACKETS: &[(&[u8], Want<'static>)] = &[
+    // the fixed head alone
+    (
+        b"\x80\0\0\0\0\0\0\0\0\0\0\0",
+        ((false, 0), (0, 0, 0), (0, 12, b"")),
+    ),
+    // the greatest fields
+    (
+        b"\x80\xff\xff\xff\xff\xff\xff\xff\xff\xff\xff\xff\xff",
+        (
+            (true, 127),
+            (65535, 4294967295, 4294967295),
+            (0, 12, b"\xff"),
+        ),
+    ),
+    // two CSRC words
+    (
+        b"\x82\x60\x01\x02\x03\x04\x05\x06\x07\x08\x09\x0a\x01\x02\x03\x04\x05\x06\x07\x08\xaa\xbb",
+        (
+            (false, 96),
+            (258, 50595078, 117967114),
+            (2, 20, b"\xaa\xbb"),
+        ),
+    ),
+    // an extension of no words, and one of a word
+    (
+        b"\x90\x60\0\x01\0\0\0\x02\0\0\0\x03\xbe\xde\0\0\xaa",
+        ((false, 96), (1, 2, 3), (0, 16, b"\xaa")),
+    ),
+    (
+        b"\x90\x60\0\x01\0\0\0\x02\0\0\0\x03\xbe\xde\0\x01\x10\xff\0\0\xaa",
+        ((false, 96), (1, 2, 3), (0, 20, b"\xaa")),
+    ),
+    // padding behind a payload, and padding alone
+    (
+        b"\xa0\x60\0\x01\0\0\0\x02\0\0\0\x03\xaa\xbb\0\0\x03",
+        ((false, 96), (1, 2, 3), (0, 12, b"\xaa\xbb")),
+    ),
+    (
+        b"\xa0\x60\0\x01\0\0\0\x02\0\0\0\x03\x01",
+        ((false, 96), (1, 2, 3), (0, 12, b"")),
+    ),
+    (
+        b"\xa0\x60\0\x01\0\0\0\x02\0\0\0\x03\xaa\x02",
+        ((false, 96), (1, 2, 3), (0, 12, b"")),
+    ),
+    // all of them
+    (
+        b"\xb1\xe0\x01\0\0\x01\0\0\x01\0\0\0\x01\x02\x03\x04\xbe\xde\0\x01\x10\xff\0\0\xaa\xbb\x09\x02",
+        ((true, 96), (256, 65536, 16777216), (1, 24, b"\xaa\xbb")),
+    ),
+];
+
 #[test]
 fn reads_packets(rt: HostRuntime) {
-    for (packet, want) in [
-        // the fixed head alone
-        (
-            b"\x80\0\0\0\0\0\0\0\0\0\0\0".as_slice(),
-            ((false, 0), (0, 0, 0), (0, 12, b"".as_slice())),
-        ),
-        // the greatest fields
-        (
-            b"\x80\xff\xff\xff\xff\xff\xff\xff\xff\xff\xff\xff\xff".as_slice(),
-            (
-                (true, 127),
-                (65535, 4294967295, 4294967295),
-                (0, 12, b"\xff".as_slice()),
-            ),
-        ),
-        // two CSRC words
-        (
-            b"\x82\x60\x01\x02\x03\x04\x05\x06\x07\x08\x09\x0a\x01\x02\x03\x04\x05\x06\x07\x08\xaa\xbb".as_slice(),
-            (
-                (false, 96),
-                (258, 50595078, 117967114),
-                (2, 20, b"\xaa\xbb".as_slice()),
-            ),
-        ),
-        // an extension of no words, and one of a word
-        (
-            b"\x90\x60\0\x01\0\0\0\x02\0\0\0\x03\xbe\xde\0\0\xaa".as_slice(),
-            ((false, 96), (1, 2, 3), (0, 16, b"\xaa".as_slice())),
-        ),
-        (
-            b"\x90\x60\0\x01\0\0\0\x02\0\0\0\x03\xbe\xde\0\x01\x10\xff\0\0\xaa".as_slice(),
-            ((false, 96), (1, 2, 3), (0, 20, b"\xaa".as_slice())),
-        ),
-        // padding behind a payload, and padding alone
-        (
-            b"\xa0\x60\0\x01\0\0\0\x02\0\0\0\x03\xaa\xbb\0\0\x03".as_slice(),
-            ((false, 96), (1, 2, 3), (0, 12, b"\xaa\xbb".as_slice())),
-        ),
-        (
-            b"\xa0\x60\0\x01\0\0\0\x02\0\0\0\x03\x01".as_slice(),
-            ((false, 96), (1, 2, 3), (0, 12, b"".as_slice())),
-        ),
-        (
-            b"\xa0\x60\0\x01\0\0\0\x02\0\0\0\x03\xaa\x02".as_slice(),
-            ((false, 96), (1, 2, 3), (0, 12, b"".as_slice())),
-        ),
-        // all of them
-        (
-            b"\xb1\xe0\x01\0\0\x01\0\0\x01\0\0\0\x01\x02\x03\x04\xbe\xde\0\x01\x10\xff\0\0\xaa\xbb\x09\x02".as_slice(),
-            (
-                (true, 96),
-                (256, 65536, 16777216),
-                (1, 24, b"\xaa\xbb".as_slice()),
-            ),
-        ),
-    ] {
+    for row in PACKETS {
+        let (packet, want) = *row;
         reads(&rt, packet, want);
     }
 }

@@ -47,21 +47,24 @@ fn reads_preambles_in_pieces(rt: HostRuntime) -> Result<(), Fail> {
     Ok(())
 }
 
+const PREAMBLES: &[(&str, usize, DumpFault)] = &[
+    ("", 1000, DumpFault::Preamble),
+    ("#!rtpplay1.0", 1000, DumpFault::Preamble),
+    (
+        "#!rtpplay1.1 a\n0123456789abcdef",
+        1000,
+        DumpFault::Preamble,
+    ),
+    ("#!rtpplay1.0 a0123456789abcdef", 1000, DumpFault::Preamble),
+    ("#!rtpplay1.0 a\n0123456789abcde", 1000, DumpFault::Preamble),
+    ("#!rtpplay1.0 a\n0123456789abcdef", 30, DumpFault::Read),
+];
+
 #[test]
 fn refuses_other_preambles(rt: HostRuntime) -> Result<(), Fail> {
     // the last of them is a preamble of 31 bytes, of which 30 are read before a read fails
-    for (input, moves, want) in [
-        ("", 1000, DumpFault::Preamble),
-        ("#!rtpplay1.0", 1000, DumpFault::Preamble),
-        (
-            "#!rtpplay1.1 a\n0123456789abcdef",
-            1000,
-            DumpFault::Preamble,
-        ),
-        ("#!rtpplay1.0 a0123456789abcdef", 1000, DumpFault::Preamble),
-        ("#!rtpplay1.0 a\n0123456789abcde", 1000, DumpFault::Preamble),
-        ("#!rtpplay1.0 a\n0123456789abcdef", 30, DumpFault::Read),
-    ] {
+    for row in PREAMBLES {
+        let (input, moves, want) = *row;
         let bytes = input.as_bytes().to_vec(rt.alloc())?;
         let mut port = MemoryPort::new(rt.alloc(), bytes, 0, moves, 1, Vec::new(rt.alloc()))?;
         assert_eq!(rt;
@@ -132,28 +135,27 @@ fn kind_of_written(alloc: Global, plen: u16, body: &[u8]) -> Result<Option<Kind>
     }
 }
 
+const KINDS: &[(u16, &[u8], Kind)] = &[
+    (0, b"", Kind::Rtcp),
+    // true length 0 and a packet of RTP
+    (0, b"\x80\0\0\0\0\0\0\0\0\0\0\0", Kind::Rtcp),
+    (1, b"", Kind::Cut),
+    // a byte less than there was, of a packet and of what is none
+    (13, b"\x80\0\0\0\0\0\0\0\0\0\0\0", Kind::Cut),
+    (13, b"\x40\0\0\0\0\0\0\0\0\0\0\0", Kind::Cut),
+    // a byte more
+    (11, b"\x80\0\0\0\0\0\0\0\0\0\0\0", Kind::Strange),
+    // version 1, and a head that isn't whole
+    (12, b"\x40\0\0\0\0\0\0\0\0\0\0\0", Kind::Strange),
+    (11, b"\x80\0\0\0\0\0\0\0\0\0\0", Kind::Strange),
+    (12, b"\x80\0\0\0\0\0\0\0\0\0\0\0", Kind::Rtp),
+    (14, b"\xa0\0\0\0\0\0\0\0\0\0\0\0\xaa\x01", Kind::Rtp),
+];
+
 #[test]
 fn tells_kinds(rt: HostRuntime) -> Result<(), Fail> {
-    for (plen, body, want) in [
-        (0, b"".as_slice(), Kind::Rtcp),
-        // true length 0 and a packet of RTP
-        (0, b"\x80\0\0\0\0\0\0\0\0\0\0\0".as_slice(), Kind::Rtcp),
-        (1, b"".as_slice(), Kind::Cut),
-        // a byte less than there was, of a packet and of what is none
-        (13, b"\x80\0\0\0\0\0\0\0\0\0\0\0".as_slice(), Kind::Cut),
-        (13, b"\x40\0\0\0\0\0\0\0\0\0\0\0".as_slice(), Kind::Cut),
-        // a byte more
-        (11, b"\x80\0\0\0\0\0\0\0\0\0\0\0".as_slice(), Kind::Strange),
-        // version 1, and a head that isn't whole
-        (12, b"\x40\0\0\0\0\0\0\0\0\0\0\0".as_slice(), Kind::Strange),
-        (11, b"\x80\0\0\0\0\0\0\0\0\0\0".as_slice(), Kind::Strange),
-        (12, b"\x80\0\0\0\0\0\0\0\0\0\0\0".as_slice(), Kind::Rtp),
-        (
-            14,
-            b"\xa0\0\0\0\0\0\0\0\0\0\0\0\xaa\x01".as_slice(),
-            Kind::Rtp,
-        ),
-    ] {
+    for row in KINDS {
+        let (plen, body, want) = *row;
         let kind = kind_of_written(rt.alloc(), plen, body)?;
         assert_eq!(rt; kind, Some(want), "true length {plen}, {body:?}");
     }
@@ -289,22 +291,25 @@ fn writes_many_records_at_once(rt: HostRuntime) -> Result<(), Fail> {
     Ok(())
 }
 
+const FAULTS: &[(DropFault, &str)] = &[
+    (DropFault::Dump(DumpFault::Preamble), "preamble"),
+    (DropFault::Dump(DumpFault::RecordHead(0)), "record 0 head"),
+    (
+        DropFault::Dump(DumpFault::RecordLength(7)),
+        "record 7 length",
+    ),
+    (DropFault::Dump(DumpFault::Truncated(12)), "record 12 cut"),
+    (DropFault::Dump(DumpFault::Read), "read fault"),
+    (DropFault::Dump(DumpFault::Memory), "no memory"),
+    (DropFault::More, "more records"),
+    (DropFault::Fewer(3), "records 3"),
+    (DropFault::Write, "write fault"),
+];
+
 #[test]
 fn prints_faults(rt: HostRuntime) -> Result<(), Fail> {
-    for (fault, want) in [
-        (DropFault::Dump(DumpFault::Preamble), "preamble"),
-        (DropFault::Dump(DumpFault::RecordHead(0)), "record 0 head"),
-        (
-            DropFault::Dump(DumpFault::RecordLength(7)),
-            "record 7 length",
-        ),
-        (DropFault::Dump(DumpFault::Truncated(12)), "record 12 cut"),
-        (DropFault::Dump(DumpFault::Read), "read fault"),
-        (DropFault::Dump(DumpFault::Memory), "no memory"),
-        (DropFault::More, "more records"),
-        (DropFault::Fewer(3), "records 3"),
-        (DropFault::Write, "write fault"),
-    ] {
+    for row in FAULTS {
+        let (fault, want) = *row;
         let text = format!(in rt.alloc(); "{fault}")?;
         assert_eq!(rt; text.as_str(), want);
     }

@@ -356,21 +356,24 @@ mod tests {
         Ok(words)
     }
 
+    const LOSE: &[(&str, Option<(&str, &str)>)] = &[
+        ("lose code.json loss.json", Some(("code.json", "loss.json"))),
+        ("lose  ", Some(("", ""))),
+        ("lose 3 2", Some(("3", "2"))),
+        ("lose 3 2 1 2 010", None),
+        ("lose 3 2 1 2 ", None),
+        ("lose 3", None),
+        ("lose", None),
+        ("lose a b c", None),
+        ("Lose a b", None),
+        ("gen a b", None),
+        ("", None),
+    ];
+
     #[test]
     fn reads_the_forms_of_lose(rt: HostRuntime) -> Result<(), Fail> {
-        for (line, want) in [
-            ("lose code.json loss.json", Some(("code.json", "loss.json"))),
-            ("lose  ", Some(("", ""))),
-            ("lose 3 2", Some(("3", "2"))),
-            ("lose 3 2 1 2 010", None),
-            ("lose 3 2 1 2 ", None),
-            ("lose 3", None),
-            ("lose", None),
-            ("lose a b c", None),
-            ("Lose a b", None),
-            ("gen a b", None),
-            ("", None),
-        ] {
+        for row in LOSE {
+            let (line, want) = *row;
             let words = words_of(rt.alloc(), line)?;
             let right = match read_words(&words) {
                 Some(command) => match command {
@@ -400,50 +403,55 @@ mod tests {
         })
     }
 
+    const GEN: &[(&str, Option<(u64, u32, u16)>)] = &[
+        ("gen 42 1 16", Some((42, 1, 16))),
+        ("gen 0 0 12", Some((0, 0, 12))),
+        ("gen 4294967296 1 12", Some((4_294_967_296, 1, 12))),
+        (
+            "gen 18446744073709551615 3999960 1472",
+            Some((u64::MAX, 3_999_960, 1472)),
+        ),
+        ("gen 18446744073709551616 1 12", None),
+        ("gen 100000000000000000000 1 12", None),
+        ("gen 42 3999961 12", None),
+        ("gen 42 1 11", None),
+        ("gen 42 1 1473", None),
+        ("gen 042 1 16", None),
+        ("gen 42 01 16", None),
+        ("gen 42 1 016", None),
+        ("gen +42 1 16", None),
+        ("gen -1 1 16", None),
+        ("gen  1 16", None),
+        ("gen 42 1", None),
+        ("gen 42 1 16 0", None),
+        ("Gen 42 1 16", None),
+    ];
+
     #[test]
     fn reads_the_forms_of_gen(rt: HostRuntime) -> Result<(), Fail> {
-        let most = 18_446_744_073_709_551_615;
-        for (line, want) in [
-            ("gen 42 1 16", Some((42, 1, 16))),
-            ("gen 0 0 12", Some((0, 0, 12))),
-            ("gen 4294967296 1 12", Some((4_294_967_296, 1, 12))),
-            (
-                "gen 18446744073709551615 3999960 1472",
-                Some((most, 3_999_960, 1472)),
-            ),
-            ("gen 18446744073709551616 1 12", None),
-            ("gen 100000000000000000000 1 12", None),
-            ("gen 42 3999961 12", None),
-            ("gen 42 1 11", None),
-            ("gen 42 1 1473", None),
-            ("gen 042 1 16", None),
-            ("gen 42 01 16", None),
-            ("gen 42 1 016", None),
-            ("gen +42 1 16", None),
-            ("gen -1 1 16", None),
-            ("gen  1 16", None),
-            ("gen 42 1", None),
-            ("gen 42 1 16 0", None),
-            ("Gen 42 1 16", None),
-        ] {
+        for row in GEN {
+            let (line, want) = *row;
             assert!(rt; generates_as(rt.alloc(), line, want)?, "at {line}");
         }
         Ok(())
     }
 
+    const PROTECT: &[(&str, Option<(&str, u16)>)] = &[
+        ("protect code.json 12", Some(("code.json", 12))),
+        ("protect  1472", Some(("", 1472))),
+        ("protect 12 13", Some(("12", 13))),
+        ("protect code.json 11", None),
+        ("protect code.json 1473", None),
+        ("protect code.json 012", None),
+        ("protect code.json", None),
+        ("protect code.json 12 12", None),
+        ("Protect code.json 12", None),
+    ];
+
     #[test]
     fn reads_the_forms_of_protect(rt: HostRuntime) -> Result<(), Fail> {
-        for (line, want) in [
-            ("protect code.json 12", Some(("code.json", 12))),
-            ("protect  1472", Some(("", 1472))),
-            ("protect 12 13", Some(("12", 13))),
-            ("protect code.json 11", None),
-            ("protect code.json 1473", None),
-            ("protect code.json 012", None),
-            ("protect code.json", None),
-            ("protect code.json 12 12", None),
-            ("Protect code.json 12", None),
-        ] {
+        for row in PROTECT {
+            let (line, want) = *row;
             let words = words_of(rt.alloc(), line)?;
             let right = match read_words(&words) {
                 Some(command) => match command {
@@ -457,19 +465,22 @@ mod tests {
         Ok(())
     }
 
+    const CHECK: &[(&str, Option<(&str, u32)>)] = &[
+        ("check code.json 1", Some(("code.json", 1))),
+        ("check  64", Some(("", 64))),
+        ("check 1 2", Some(("1", 2))),
+        ("check code.json 0", None),
+        ("check code.json 65", None),
+        ("check code.json 01", None),
+        ("check code.json", None),
+        ("check code.json 1 1", None),
+        ("Check code.json 1", None),
+    ];
+
     #[test]
     fn reads_the_forms_of_check(rt: HostRuntime) -> Result<(), Fail> {
-        for (line, want) in [
-            ("check code.json 1", Some(("code.json", 1))),
-            ("check  64", Some(("", 64))),
-            ("check 1 2", Some(("1", 2))),
-            ("check code.json 0", None),
-            ("check code.json 65", None),
-            ("check code.json 01", None),
-            ("check code.json", None),
-            ("check code.json 1 1", None),
-            ("Check code.json 1", None),
-        ] {
+        for row in CHECK {
+            let (line, want) = *row;
             let words = words_of(rt.alloc(), line)?;
             let right = match read_words(&words) {
                 Some(command) => match command {
@@ -483,18 +494,21 @@ mod tests {
         Ok(())
     }
 
+    const REPAIR: &[(&str, Option<&str>)] = &[
+        ("repair code.json", Some("code.json")),
+        ("repair ", Some("")),
+        ("repair 12", Some("12")),
+        ("repair", None),
+        ("repair code.json 1", None),
+        ("repair  ", None),
+        ("Repair code.json", None),
+        ("repairs code.json", None),
+    ];
+
     #[test]
     fn reads_the_forms_of_repair(rt: HostRuntime) -> Result<(), Fail> {
-        for (line, want) in [
-            ("repair code.json", Some("code.json")),
-            ("repair ", Some("")),
-            ("repair 12", Some("12")),
-            ("repair", None),
-            ("repair code.json 1", None),
-            ("repair  ", None),
-            ("Repair code.json", None),
-            ("repairs code.json", None),
-        ] {
+        for row in REPAIR {
+            let (line, want) = *row;
             let words = words_of(rt.alloc(), line)?;
             let right = match read_words(&words) {
                 Some(command) => match command {
@@ -508,20 +522,23 @@ mod tests {
         Ok(())
     }
 
+    const BOUNDS: &[(&str, Option<(u32, u32, u32, u32)>, Option<(&str, &str)>)] = &[
+        ("bound 3 2 1 2", Some((3, 2, 1, 2)), None),
+        ("bound 255 40 1 40", Some((255, 40, 1, 40)), None),
+        ("bound 3 2 1 3", None, None),
+        ("bound 3 2 1", None, None),
+        ("bound 3 2 1 2 0", None, None),
+        ("bound 03 2 1 2", None, None),
+        ("certify a b", None, Some(("a", "b"))),
+        ("certify  ", None, Some(("", ""))),
+        ("certify a", None, None),
+        ("certify a b c", None, None),
+    ];
+
     #[test]
     fn reads_the_forms_of_bounds(rt: HostRuntime) -> Result<(), Fail> {
-        for (line, numbers, files) in [
-            ("bound 3 2 1 2", Some((3, 2, 1, 2)), None),
-            ("bound 255 40 1 40", Some((255, 40, 1, 40)), None),
-            ("bound 3 2 1 3", None, None),
-            ("bound 3 2 1", None, None),
-            ("bound 3 2 1 2 0", None, None),
-            ("bound 03 2 1 2", None, None),
-            ("certify a b", None, Some(("a", "b"))),
-            ("certify  ", None, Some(("", ""))),
-            ("certify a", None, None),
-            ("certify a b c", None, None),
-        ] {
+        for row in BOUNDS {
+            let (line, numbers, files) = *row;
             let words = words_of(rt.alloc(), line)?;
             let right = match read_words(&words) {
                 Some(command) => match command {
@@ -538,26 +555,29 @@ mod tests {
         Ok(())
     }
 
+    const DESIGN: &[(&str, Option<(Kind, (u32, u32, u32, u32))>)] = &[
+        ("design ms 3 2 1 2", Some((Kind::Ms, (3, 2, 1, 2)))),
+        (
+            "design layered 2 1 1 1",
+            Some((Kind::Layered, (2, 1, 1, 1))),
+        ),
+        (
+            "design optimal 11 4 2 10",
+            Some((Kind::Optimal, (11, 4, 2, 10))),
+        ),
+        ("design MS 3 2 1 2", None),
+        ("design midas 3 2 1 2", None),
+        ("design ms 3 2 1 3", None),
+        ("design ms 3 2 1", None),
+        ("design 3 2 1 2", None),
+        ("design ms 3 2 1 2 0", None),
+        ("design ms 3 2 01 2", None),
+    ];
+
     #[test]
     fn reads_the_forms_of_design(rt: HostRuntime) -> Result<(), Fail> {
-        for (line, want) in [
-            ("design ms 3 2 1 2", Some((Kind::Ms, (3, 2, 1, 2)))),
-            (
-                "design layered 2 1 1 1",
-                Some((Kind::Layered, (2, 1, 1, 1))),
-            ),
-            (
-                "design optimal 11 4 2 10",
-                Some((Kind::Optimal, (11, 4, 2, 10))),
-            ),
-            ("design MS 3 2 1 2", None),
-            ("design midas 3 2 1 2", None),
-            ("design ms 3 2 1 3", None),
-            ("design ms 3 2 1", None),
-            ("design 3 2 1 2", None),
-            ("design ms 3 2 1 2 0", None),
-            ("design ms 3 2 01 2", None),
-        ] {
+        for row in DESIGN {
+            let (line, want) = *row;
             let words = words_of(rt.alloc(), line)?;
             let right = match read_words(&words) {
                 Some(command) => match command {
@@ -574,25 +594,28 @@ mod tests {
         Ok(())
     }
 
+    const TRIAL: &[(&str, Option<(&str, (u64, u32, u16))>)] = &[
+        ("trial c1.json 42 4 12", Some(("c1.json", (42, 4, 12)))),
+        ("trial  0 0 1472", Some(("", (0, 0, 1472)))),
+        (
+            "trial 1 18446744073709551615 10000 172",
+            Some(("1", (u64::MAX, 10_000, 172))),
+        ),
+        ("trial c1.json 42 10001 12", None),
+        ("trial c1.json 18446744073709551616 4 12", None),
+        ("trial c1.json 42 4 11", None),
+        ("trial c1.json 42 4 1473", None),
+        ("trial c1.json 42 04 12", None),
+        ("trial c1.json 42 4", None),
+        ("trial c1.json 42 4 12 0", None),
+        ("trial 42 4 12", None),
+        ("Trial c1.json 42 4 12", None),
+    ];
+
     #[test]
     fn reads_the_forms_of_trial(rt: HostRuntime) -> Result<(), Fail> {
-        for (line, want) in [
-            ("trial c1.json 42 4 12", Some(("c1.json", (42, 4, 12)))),
-            ("trial  0 0 1472", Some(("", (0, 0, 1472)))),
-            (
-                "trial 1 18446744073709551615 10000 172",
-                Some(("1", (u64::MAX, 10_000, 172))),
-            ),
-            ("trial c1.json 42 10001 12", None),
-            ("trial c1.json 18446744073709551616 4 12", None),
-            ("trial c1.json 42 4 11", None),
-            ("trial c1.json 42 4 1473", None),
-            ("trial c1.json 42 04 12", None),
-            ("trial c1.json 42 4", None),
-            ("trial c1.json 42 4 12 0", None),
-            ("trial 42 4 12", None),
-            ("Trial c1.json 42 4 12", None),
-        ] {
+        for row in TRIAL {
+            let (line, want) = *row;
             let words = words_of(rt.alloc(), line)?;
             let right = match read_words(&words) {
                 Some(command) => match command {
@@ -617,24 +640,27 @@ mod tests {
         one_numeral();
     }
 
+    const NUMBERS: &[(&str, u64, Option<u64>)] = &[
+        ("0", 0, Some(0)),
+        ("1", 0, None),
+        ("10", 10, Some(10)),
+        ("11", 10, None),
+        ("4294967295", 4_294_967_295, Some(4_294_967_295)),
+        ("4294967296", 4_294_967_295, None),
+        ("18446744073709551615", u64::MAX, Some(u64::MAX)),
+        ("18446744073709551616", u64::MAX, None),
+        ("00", 10, None),
+        ("+1", 10, None),
+        ("-1", 10, None),
+        ("-", 10, None),
+        ("1a", 10, None),
+        ("", 10, None),
+    ];
+
     #[test]
     fn reads_numbers(rt: HostRuntime) {
-        for (word, most, want) in [
-            ("0", 0, Some(0)),
-            ("1", 0, None),
-            ("10", 10, Some(10)),
-            ("11", 10, None),
-            ("4294967295", 4_294_967_295, Some(4_294_967_295)),
-            ("4294967296", 4_294_967_295, None),
-            ("18446744073709551615", u64::MAX, Some(u64::MAX)),
-            ("18446744073709551616", u64::MAX, None),
-            ("00", 10, None),
-            ("+1", 10, None),
-            ("-1", 10, None),
-            ("-", 10, None),
-            ("1a", 10, None),
-            ("", 10, None),
-        ] {
+        for row in NUMBERS {
+            let (word, most, want) = *row;
             assert_eq!(rt; number_word(word, most), want, "at {word}");
         }
     }
