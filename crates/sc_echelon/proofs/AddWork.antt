@@ -1,15 +1,15 @@
 -- What is read of the reduced row decides the answer.
-use Rattle.std.proofs.Common.{◌≡◌, ◌≢◌, ℕ, ◌<◌, List, length, get_or, Option, inl, inr, sym, ◌∙◌, ap, subst, arith}
+use Rattle.std.proofs.Common.{◌≡◌, ◌≢◌, ℕ, ◌+◌, ◌-◌, ◌<◌, ◌≤◌, List, length, get_or, Option, inl, inr, sym, ◌∙◌, ap, subst, arith}
 use Rattle.std.proofs.lemmas.Bool.{cases_eq}
 use Rattle.sc_field.specs.Field.{IsField, IsAction}
 use Rattle.sc_echelon.specs.Equation.{Row, IsRow}
-use Rattle.sc_echelon.specs.Storage.{IsZeroOutside}
+use Rattle.sc_echelon.specs.Storage.{HasReach, IsZeroOutside}
 use Rattle.sc_echelon.specs.Steps.{IsLeft, insert, led, reduce}
 use Rattle.sc_echelon.specs.Kept.{known_by, IsKept}
 use Rattle.sc_echelon.specs.Knowledge.{IsBytes, zero_bytes, xor_bytes, act_bytes, Follows, Contradicts, Adds}
 use Rattle.sc_echelon.proofs.Bytes.{bytes_module}
 use Rattle.sc_echelon.proofs.AddRow.{left-reduce}
-use Rattle.sc_echelon.proofs.KnowledgeLaws.{added_known, added_clash, added_new, adds_new, kept_new}
+use Rattle.sc_echelon.proofs.KnowledgeLaws.{added_known, added_clash, added_new, adds_new, kept_new, reach_new}
 
 pub left_reduced : {A : Type 0} {IsElement : A → Type 0} {zero one : A} {add sub mul : A → A → A} {inv : A → A} {act : A → ℕ → ℕ} (laws : IsField IsElement zero one add sub mul inv) (action : IsAction IsElement zero one add mul act)
     (n w : ℕ) (t : List (Option (Row A (List ℕ)))) → IsKept IsElement zero one n w t → (q m : Row A (List ℕ)) → IsRow IsElement (IsBytes w) n q → m ≡ reduce zero add sub mul xor_bytes (act_bytes act) t n q
@@ -27,10 +27,10 @@ module _ {A : Type 0} {IsElement : A → Type 0} {zero one : A} {add sub mul : A
     pub found_nonzero : get_or m.coeffs p zero ≢ zero
     found_nonzero z = nonzero (ap (λ (ys : List A). get_or ys p zero) same ∙ z)
 
-    -- the other rows have a zero there, but for those of pivots before it
-    pub found_others : IsZeroOutside zero 0 p p t
-    found_others = record {
-      before = λ i r e l. absurd (omega arith);
+    -- the other rows have a zero there, but for those of pivots so near before it that they reach it
+    pub found_others : (reach first : ℕ) → first ≡ p - reach → HasReach zero reach t → IsZeroOutside zero first p p t
+    found_others reach first is near = record {
+      before = λ i r e l. near i p r e (omega arith);
       after = λ i r e h. elim (cases_eq i p) [
         | inl s ↦ (let l = found_within in absurd (found_nonzero (ap (λ (j : ℕ). get_or m.coeffs j zero) (sym s) ∙ left.clear i r e (omega arith))))
         | inr other ↦ kept.first i p r e (omega arith)
@@ -48,6 +48,14 @@ module _ {A : Type 0} {IsElement : A → Type 0} {zero one : A} {add sub mul : A
         subst (λ (k : ℕ). IsKept IsElement zero one k w t') (sym en)
         (subst (λ (s : List (Option (Row A (List ℕ)))). IsKept IsElement zero one n w s) (sym e)
         (kept_new laws action n w t kept q m left p found_within found_nonzero (λ j l. ap (λ (ys : List A). get_or ys j zero) (sym same) ∙ zeros j l)))
+
+    -- how far the rows reach with the new one: no row before `low` is changed, and from `end` on the new one is zero
+    pub found_reach : (reach more low end : ℕ) → reach ≤ more → end ≤ low + more → low ≤ p → HasReach zero reach t → IsZeroOutside zero low p p t → ((j : ℕ) → end ≤ j → get_or xs j zero ≡ zero)
+        → (t' : List (Option (Row A (List ℕ)))) → t' ≡ insert zero add sub mul xor_bytes (act_bytes act) p (led zero mul inv (act_bytes act) p m) t → HasReach zero more t'
+    found_reach reach more low end a b c near others zeros t' e =
+        subst (λ (s : List (Option (Row A (List ℕ)))). HasReach zero more s) (sym e)
+        (reach_new laws action n w t kept q m left p found_within found_nonzero reach more low end a b c near others.before
+        (λ j l. ap (λ (ys : List A). get_or ys j zero) (sym same) ∙ zeros j l))
 
   -- ---- none was found
   module _ (zeros : (j : ℕ) → j < length xs → get_or xs j zero ≡ zero) (bs : List ℕ) (right : bs ≡ m.right) where

@@ -8,6 +8,7 @@ use Rattle.sc_field.specs.Field.{IsField}
 use Rattle.sc_matrix.specs.Module.{IsModule}
 use Rattle.sc_matrix.specs.Vector.{dot, IsVector}
 use Rattle.sc_echelon.specs.Equation.{Row, IsRow, Meets}
+use Rattle.sc_echelon.specs.Storage.{HasReach}
 use Rattle.sc_echelon.specs.Table.{slot, IsReduced, HasFirstPivots, SolvesTable}
 use Rattle.sc_echelon.specs.Steps.{shift, shift_row, forget}
 use Rattle.sc_matrix.proofs.ModuleLaws.{none_plus}
@@ -101,6 +102,11 @@ module _ {A V : Type 0} {IsElement : A → Type 0} {zero one : A} {add sub mul :
     first-forget i j r' e l =
         let (r, f, is_r) = forget_cases i r' e in
         ap (λ (x : Row A V). get_or x.coeffs j zero) is_r ∙ shifted_entry r j (form.rows (count + i) r f) ∙ first (count + i) (count + j) r f (omega arith)
+
+    pub reach-forget : (reach : ℕ) → HasReach zero reach t → HasReach zero reach (forget zero count t)
+    reach-forget reach near i j r' e l =
+        let (r, f, is_r) = forget_cases i r' e in
+        ap (λ (x : Row A V). get_or x.coeffs j zero) is_r ∙ shifted_entry r j (form.rows (count + i) r f) ∙ near (count + i) (count + j) r f (omega arith)
 
     -- ---- solutions
     module _ (vs : List V) (hv : IsVector IsValue n vs) where

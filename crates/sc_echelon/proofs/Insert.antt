@@ -1,5 +1,5 @@
 -- A new row goes into a reduced table at its pivot, and its column is cleared in the other rows.
-use Rattle.std.proofs.Common.{◌≡◌, ◌≢◌, ◌↔◌, ◌⊎◌, ℕ, zero as naught, suc, ◌<◌, List, [], ◌∷◌, length, get_or, map, Option, None, Some, inl, inr, refl, sym, ◌∙◌, ap, ap₂, subst, arith}
+use Rattle.std.proofs.Common.{◌≡◌, ◌≢◌, ◌↔◌, ◌⊎◌, ℕ, zero as naught, suc, ◌+◌, ◌<◌, ◌≤◌, List, [], ◌∷◌, length, get_or, map, Option, None, Some, inl, inr, refl, sym, ◌∙◌, ap, ap₂, subst, arith}
 use Rattle.std.proofs.lemmas.List.{length-map, length-set, get_or-map, get_or-set_same, get_or-set_other, get_or_past}
 use Rattle.std.proofs.lemmas.List.Elements.{All-nil, All-cons, All-head, All-tail}
 use Rattle.std.proofs.lemmas.Bool.{cases_eq, cases_lt}
@@ -8,6 +8,7 @@ use Rattle.sc_field.specs.FieldLemmas.{mul_zero, zero_mul, inv_mul, inv-nonzero,
 use Rattle.sc_matrix.specs.Module.{IsModule}
 use Rattle.sc_matrix.specs.Vector.{IsVector}
 use Rattle.sc_echelon.specs.Equation.{Row, IsRow, Meets, Solves}
+use Rattle.sc_echelon.specs.Storage.{HasReach}
 use Rattle.sc_echelon.specs.Table.{slot, rows_of, IsReduced, HasFirstPivots, HasLastPivots, SolvesTable}
 use Rattle.sc_echelon.specs.Steps.{plus_row, entry, clear_at, insert, led, IsLeft}
 use Rattle.sc_echelon.proofs.RowOperations.{negative_element, entry_element, IsRow-plus_row, IsRow-times_row, entry-plus_row, entry-plus_zero, entry-cleared, entry-times_row, meets-plus_row, meets-times_row}
@@ -110,6 +111,19 @@ module _ {A V : Type 0} {IsElement : A → Type 0} {zero one : A} {add sub mul :
           ])
     ]
 
+    -- a row that isn't changed reaches as far as before, and the others as far as row q at most
+    pub reach-insert : (reach more low end : ℕ) → reach ≤ more → end ≤ low + more → low ≤ p → HasReach zero reach t → ((i : ℕ) (r : Row A V) → slot t i ≡ Some r → i < low → get_or r.coeffs p zero ≡ zero)
+        → ((j : ℕ) → end ≤ j → get_or q.coeffs j zero ≡ zero) → HasReach zero more (insert zero add sub mul plus times p q t)
+    reach-insert reach more low end a b c near unchanged zeros = λ i j r' e l. elim (insert_cases p i q r' t within e) [
+      | inl (s, is_q) ↦ ap (λ (x : Row A V). get_or x.coeffs j zero) is_q ∙ zeros j (omega arith)
+      | inr (ne, (r, f, is_r)) ↦
+          ap (λ (x : Row A V). get_or x.coeffs j zero) is_r
+          ∙ still_zero i j r f (near i j r f (omega arith)) (elim (cases_lt i low) [
+            | inl before ↦ inl (unchanged i r f before)
+            | inr behind ↦ inr (zeros j (omega arith))
+          ])
+    ]
+
     pub last-insert : HasLastPivots zero t → ((j : ℕ) → p < j → get_or q.coeffs j zero ≡ zero) → HasLastPivots zero (insert zero add sub mul plus times p q t)
     last-insert last zeros = λ i j r' e l. elim (insert_cases p i q r' t within e) [
       | inl (s, is_q) ↦ ap (λ (x : Row A V). get_or x.coeffs j zero) is_q ∙ zeros j (omega arith)
@@ -172,6 +186,10 @@ module _ {A V : Type 0} {IsElement : A → Type 0} {zero one : A} {add sub mul :
 
     pub first-new : HasFirstPivots zero t → ((j : ℕ) → j < p → get_or m.coeffs j zero ≡ zero) → HasFirstPivots zero (insert zero add sub mul plus times p (led zero mul inv times p m) t)
     first-new first zeros = first-insert n t form p lp (led zero mul inv times p m) led_row led_one led_clear first (λ j l. led_zero j (zeros j l))
+
+    pub reach-new : (reach more low end : ℕ) → reach ≤ more → end ≤ low + more → low ≤ p → HasReach zero reach t → ((i : ℕ) (r : Row A V) → slot t i ≡ Some r → i < low → get_or r.coeffs p zero ≡ zero)
+        → ((j : ℕ) → end ≤ j → get_or m.coeffs j zero ≡ zero) → HasReach zero more (insert zero add sub mul plus times p (led zero mul inv times p m) t)
+    reach-new reach more low end a b c near unchanged zeros = reach-insert n t form p lp (led zero mul inv times p m) led_row led_one led_clear reach more low end a b c near unchanged (λ j l. led_zero j (zeros j l))
 
     pub last-new : HasLastPivots zero t → ((j : ℕ) → p < j → get_or m.coeffs j zero ≡ zero) → HasLastPivots zero (insert zero add sub mul plus times p (led zero mul inv times p m) t)
     last-new last zeros = last-insert n t form p lp (led zero mul inv times p m) led_row led_one led_clear last (λ j l. led_zero j (zeros j l))

@@ -1,7 +1,7 @@
 -- What need not be looked at: a row is not changed where its entry in the column is a zero already.
-use Rattle.std.proofs.Common.{◌≡◌, ℕ, zero as naught, suc, ◌+◌, ◌<◌, ◌≤◌, Bool, false, List, length, get_or, Option, Some, inl, inr, refl, sym, ◌∙◌, ap, ap₂, subst, arith}
+use Rattle.std.proofs.Common.{◌≡◌, ℕ, zero as naught, suc, ◌+◌, ◌<◌, ◌≤◌, Bool, true, false, List, length, get_or, Option, Some, inl, inr, refl, sym, ◌∙◌, ap, ap₂, subst, arith}
 use Rattle.std.proofs.lemmas.List.{get_or_default}
-use Rattle.std.proofs.lemmas.Bool.{cases_lt, cases_Bool}
+use Rattle.std.proofs.lemmas.Bool.{cases_eq, cases_lt, cases_Bool}
 use Rattle.sc_field.specs.Field.{IsField}
 use Rattle.sc_field.specs.FieldLemmas.{sub_self}
 use Rattle.sc_matrix.specs.Module.{IsModule}
@@ -11,8 +11,8 @@ use Rattle.sc_echelon.specs.Equation.{Row, IsRow}
 use Rattle.sc_echelon.specs.Table.{slot}
 use Rattle.sc_echelon.specs.Steps.{entry, plus_row, cleared, clear_at, eliminate, reduce}
 use Rattle.sc_echelon.specs.Storage.{place, table_of, ChangedBelow, HasRows, IsZeroOutside}
-use Rattle.sc_echelon.proofs.Settle.{cases_option}
-use Rattle.sc_echelon.proofs.StoredSteps.{slot_on}
+use Rattle.sc_echelon.proofs.Settle.{cases_option, none_is_not_some}
+use Rattle.sc_echelon.proofs.StoredSteps.{slot_on, slot_off}
 
 -- rows of the same width and as many columns
 pub HasRows-same : {A : Type 0} {IsElement : A → Type 0} {n w : ℕ} (used : List Bool) (rows : List (Row A (List ℕ))) (k v : ℕ) → k ≡ n → v ≡ w → HasRows IsElement n w used rows → HasRows IsElement k v used rows
@@ -78,3 +78,27 @@ module _ {A V : Type 0} {IsElement : A → Type 0} {zero one : A} {add sub mul :
         ];
         left = λ i d l m. absurd (omega arith);
       }
+
+-- Rows that are known to have a zero in the column, one after another.
+module _ {A V : Type 0} (zero : A) (end p : ℕ) (used : List Bool) (rows : List (Row A V)) (count : length rows ≡ length used) where
+  pub outside_off : (k m : ℕ) → m ≤ length used → ((i : ℕ) → k ≤ i → i < m → get_or used i false ≡ false) → IsZeroOutside zero k end p (table_of used rows) → IsZeroOutside zero m end p (table_of used rows)
+  outside_off k m fits off h = record {
+    before = λ i r e l. elim (cases_lt i k) [
+      | inl low ↦ h.before i r e low
+      | inr high ↦ none_is_not_some (slot_off used rows count i r (omega arith) (off i high l)) e
+    ];
+    after = h.after;
+  }
+
+  pub outside_on : (k : ℕ) (q : Row A V) → k < length used → get_or used k false ≡ true → q ≡ get_or rows k q → get_or q.coeffs p zero ≡ zero → IsZeroOutside zero k end p (table_of used rows) → IsZeroOutside zero (k + 1) end p (table_of used rows)
+  outside_on k q l on is none h = record {
+    before = λ i r e b. elim (cases_eq i k) [
+      | inl s ↦
+          (let f : slot (table_of used rows) k ≡ Some q = slot_on used rows count k q l on is in
+          let g : slot (table_of used rows) i ≡ slot (table_of used rows) k = ap (slot (table_of used rows)) s in
+          let same : q ≡ r = cc in
+          ap (λ (x : Row A V). get_or x.coeffs p zero) (sym same) ∙ none)
+      | inr ne ↦ h.before i r e (omega arith)
+    ];
+    after = h.after;
+  }

@@ -34,6 +34,7 @@ pub enum Added {
 #[derive(Drop)]
 pub struct Knowledge<F: Field> {
     width: usize,
+    reach: usize,
     used: Vec<bool>,
     rows: Vec<Equation<F>>,
     work: Equation<F>,
@@ -52,7 +53,7 @@ impl<F: Field> Model for Knowledge<F> {
 
     ghost view = { λ k. known_by (length k.used.items) k.width (table_of k.used.items k.rows.items) };
 
-    ghost invariant = { λ k. IsStored F.IsElement F.zero F.one k.width k.used.items k.rows.items k.work };
+    ghost invariant = { λ k. IsStored F.IsElement F.zero F.one k.width k.reach k.used.items k.rows.items k.work };
 }
 
 impl<F: Field> Knowledge<F> {
@@ -72,6 +73,7 @@ impl<F: Field> Knowledge<F> {
         let tables = Tables::all(alloc)?;
         Ok(Knowledge {
             width,
+            reach: 0,
             used,
             rows,
             work,
@@ -108,8 +110,9 @@ impl<F: Field> Knowledge<F> {
     /// `New`, and the solutions are those that meet it.
     ///
     /// Each coefficient is read once. Then it costs a look at each column from the first to the last that the row touches, and
-    /// at each before its pivot where it is new. For each row that it is cleared by, or that it clears, it costs a pass
-    /// over `width` bytes and the columns from the first to the last that the added row touches.
+    /// where it is new at each before its pivot, as far back as a row before reached. For each row that it is cleared by, or
+    /// that it clears, it costs a pass over `width` bytes and the columns from the first to the last that the added row
+    /// touches.
     pub fn add_row(&mut self, coeffs: &[F], rhs: &[u8]) -> Added
         requires coeffs { length coeffs.now ≡ self.old.cols }
         requires rhs { length rhs.now ≡ self.old.width }
@@ -127,6 +130,7 @@ impl<F: Field> Knowledge<F> {
             self.used.as_mut_slice(),
             &mut self.work,
             width,
+            &mut self.reach,
             &mut self.tables,
         )
     }
@@ -163,11 +167,13 @@ impl<F: Field> Knowledge<F> {
         ensures solutions { Forgets F.act count self.old self.new }
     {
         let width = self.width;
+        let reach = self.reach;
         forget_rows(
             self.rows.as_mut_slice(),
             self.used.as_mut_slice(),
             &self.work,
             width,
+            reach,
             count,
         );
     }

@@ -141,6 +141,41 @@ pub(crate) fn clear_at_pivots<F: Field>(
     work.known();
 }
 
+// Whether the coefficient at column `p` is zero.
+#[inline(always)]
+fn is_zero_at<F: Field>(row: &Equation<F>, p: usize) -> bool
+    requires { p < length row.now.coeffs }
+    ensures { result ≡ true → slice_index_or row.now.coeffs p F.zero ≡ F.zero }
+{
+    row.coeff(p) == F::zero()
+}
+
+// The first row in use whose coefficient at column `p` is not zero, or `end` where there is none. No row but those from `first`
+// up to `end` has another coefficient than zero in it.
+fn first_touched<F: Field>(
+    rows: &[Equation<F>],
+    used: &[bool],
+    p: usize,
+    first: usize,
+    end: usize,
+) -> usize
+    requires count { length rows.now ≡ length used.now }
+    requires p_in { p < length used.now }
+    requires widths { All (λ r. length r.coeffs ≡ length used.now) rows.now }
+    requires order { first ≤ end }
+    requires range { end ≤ length used.now }
+    requires others { IsZeroOutside F.zero first end p (table_of used.now rows.now) }
+    ensures order { first ≤ result }
+    ensures within { result ≤ end }
+    ensures others { IsZeroOutside F.zero result end p (table_of used.now rows.now) }
+{
+    let mut k = next_on(used, first, end);
+    while k < end && is_zero_at(&rows[k], p) {
+        k = next_on(used, k + 1, end);
+    }
+    k
+}
+
 // Clears column `p` in the rows in use, by a row that has a one there. No row but those from `first` up to `end` has another
 // coefficient than zero in it.
 fn clear_column<F: Field>(
@@ -211,17 +246,18 @@ pub(crate) fn insert_row<F: Field>(
     used[p] = true;
 }
 
-// Adds the equation in the work row to the table.
+// Adds the equation in the work row to the table. No row in use touches a column that lies `reach` or more behind its pivot.
 pub(crate) fn add_work<F: Field>(
     rows: &mut [Equation<F>],
     used: &mut [bool],
     work: &mut Equation<F>,
     width: usize,
+    reach: &mut usize,
     tables: &mut Tables<F>,
 ) -> Added
-    requires stored { IsStored F.IsElement F.zero F.one width used.old rows.old work.old }
+    requires stored { IsStored F.IsElement F.zero F.one width reach.old used.old rows.old work.old }
     requires row { IsRow F.IsElement (IsBytes width) (length used.old) work.old }
-    ensures stored { IsStored F.IsElement F.zero F.one width used.new rows.new work.new }
+    ensures stored { IsStored F.IsElement F.zero F.one width reach.new used.new rows.new work.new }
     ensures flags { length used.new ≡ length used.old }
     ensures known { result ≡ Added.Known ↔ Follows F.act (known_by (length used.old) width (table_of used.old rows.old)) work.old }
     ensures clash { result ≡ Added.Clash ↔ Contradicts F.act (known_by (length used.old) width (table_of used.old rows.old)) work.old }
@@ -232,7 +268,10 @@ pub(crate) fn add_work<F: Field>(
     clear_at_pivots(work, used, rows, tables);
     match work.first_nonzero() {
         Some(p) => {
-            insert_row(rows, used, work, p, 0, p, tables);
+            let end = work.end();
+            let low = first_touched(rows, used, p, p.saturating_sub(*reach), p);
+            insert_row(rows, used, work, p, low, p, tables);
+            *reach = (*reach).max(end.saturating_sub(low));
             Added::New
         }
         None => {
@@ -278,11 +317,12 @@ pub(crate) fn forget_rows<F: Field>(
     used: &mut [bool],
     work: &Equation<F>,
     width: usize,
+    reach: usize,
     count: usize,
 )
-    requires stored { IsStored F.IsElement F.zero F.one width used.old rows.old work.now }
+    requires stored { IsStored F.IsElement F.zero F.one width reach used.old rows.old work.now }
     requires fits { count ≤ length used.old }
-    ensures stored { IsStored F.IsElement F.zero F.one width used.new rows.new work.now }
+    ensures stored { IsStored F.IsElement F.zero F.one width reach used.new rows.new work.now }
     ensures flags { length used.new ≡ length used.old }
     ensures solutions { Forgets F.act count (known_by (length used.old) width (table_of used.old rows.old))
         (known_by (length used.old) width (table_of used.new rows.new)) }

@@ -1,7 +1,7 @@
-use Rattle.std.proofs.Common.{length, refl, sym, ◌∙◌}
+use Rattle.std.proofs.Common.{length, refl, sym, ◌∙◌, arith}
 use Rattle.sc_echelon.specs.Storage.{table_of}
 use Rattle.sc_echelon.proofs.Skipped.{HasRows-same}
-use Rattle.sc_echelon.proofs.AddWork.{found_others, left_reduced, found_new, found_adds, found_kept, none_known, none_clash}
+use Rattle.sc_echelon.proofs.AddWork.{found_others, found_reach, left_reduced, found_new, found_adds, found_kept, none_known, none_clash}
 use Rattle.sc_echelon.proofs.table.add_work.Goals as goal
 
 pub returns-in-Some-clause-stored : goal.returns-in-Some-clause-stored
@@ -15,6 +15,13 @@ returns-in-Some-clause-stored g c =
       some = stored.some;
       kept = found_kept g.met.F.Field.field g.met.F.Field.action (length c.args.used.now) c.args.width t stored.kept c.args.work.now m left c.clear_at_pivots.new.work.coeffs refl
           c.in-Some.p c.in-Some.ensures.0 c.in-Some.ensures.1 c.in-Some.ensures.2 (length c.insert_row.new.used) (table_of c.insert_row.new.used c.insert_row.new.rows) flags c.insert_row.ensures.table;
+      near =
+          (let low = c.first_touched-low.ensures in
+          let more = c.max.ensures in
+          let farther = c.saturating_sub-in-Some.ensures in
+          found_reach g.met.F.Field.field g.met.F.Field.action (length c.args.used.now) c.args.width t stored.kept c.args.work.now m left m.coeffs refl c.in-Some.p c.in-Some.ensures.0 c.in-Some.ensures.1
+          c.args.reach.now c.max.result c.first_touched-low.result c.end-end.result (omega arith) (omega arith) low.within stored.near low.others c.end-end.ensures.zeros
+          (table_of c.insert_row.new.used c.insert_row.new.rows) c.insert_row.ensures.table);
       count = c.insert_row.ensures.count;
       widths = λ k d l. c.insert_row.ensures.widths k d l ∙ left.row.width ∙ sym flags;
       rights = λ k d l. c.insert_row.ensures.rights k d l ∙ left.row.value.width;
@@ -73,7 +80,8 @@ insert_row-requires-clause-elements g c =
     let stored = c.requires.stored in
     HasRows-same c.args.used.now c.args.rows.now (length m.coeffs) (length m.right) (c.clear_at_pivots.ensures.width ∙ stored.work_width) (c.clear_at_pivots.ensures.right ∙ stored.work_right) stored.kept.reduced.rows
 
-pub insert_row-requires-clause-others : goal.insert_row-requires-clause-others
-insert_row-requires-clause-others g c =
+pub first_touched-low-requires-clause-others : goal.first_touched-low-requires-clause-others
+first_touched-low-requires-clause-others g c =
     found_others g.met.F.Field.field g.met.F.Field.action (length c.args.used.now) c.args.width (table_of c.args.used.now c.args.rows.now) c.requires.stored.kept c.args.work.now
     c.clear_at_pivots.new.work (left_reduced g.met.F.Field.field g.met.F.Field.action (length c.args.used.now) c.args.width (table_of c.args.used.now c.args.rows.now) c.requires.stored.kept c.args.work.now c.clear_at_pivots.new.work c.requires.row c.clear_at_pivots.ensures.value) c.clear_at_pivots.new.work.coeffs refl c.in-Some.p c.in-Some.ensures.0 c.in-Some.ensures.1
+    c.args.reach.now c.saturating_sub.result c.saturating_sub.ensures c.requires.stored.near

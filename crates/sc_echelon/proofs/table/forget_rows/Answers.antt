@@ -2,10 +2,10 @@ use Rattle.std.proofs.Common.{◌≡◌, false, length, drop, replicate, All, sy
 use Rattle.std.proofs.lemmas.List.{length-append, length-drop, length-replicate}
 use Rattle.sc_echelon.specs.Steps.{forget}
 use Rattle.sc_echelon.specs.Kept.{known_by, IsKept}
-use Rattle.sc_echelon.specs.Storage.{table_of}
+use Rattle.sc_echelon.specs.Storage.{table_of, HasReach}
 use Rattle.sc_echelon.specs.Knowledge.{Forgets}
 use Rattle.sc_echelon.proofs.StoredForget.{forget_stored}
-use Rattle.sc_echelon.proofs.KnowledgeLaws.{forgets, kept_forget}
+use Rattle.sc_echelon.proofs.KnowledgeLaws.{forgets, kept_forget, reach_forget}
 use Rattle.sc_echelon.proofs.table.forget_rows.Goals as goal
 
 pub returns-clause-solutions : goal.returns-clause-solutions
@@ -41,6 +41,9 @@ returns-clause-stored g c =
           subst (λ k. IsKept g.F.Field.IsElement g.F.Field.zero g.F.Field.one k c.args.width (table_of c.shift_flags.new.flags c.move_rows.new.rows)) (sym same)
           (subst (λ t. IsKept g.F.Field.IsElement g.F.Field.zero g.F.Field.one n c.args.width t) (sym table)
           (kept_forget g.met.F.Field.field g.met.F.Field.action n c.args.width (table_of used old) kept count fits));
+      near =
+          subst (λ t. HasReach g.F.Field.zero c.args.reach t) (sym table)
+          (reach_forget g.met.F.Field.field g.met.F.Field.action n c.args.width (table_of used old) kept count fits c.args.reach stored.near);
       count = c.move_rows.ensures.moved.size ∙ stored.count ∙ sym same;
       widths = subst (λ k. All (λ r. length r.coeffs ≡ k) c.move_rows.new.rows) (sym same) c.move_rows.ensures.widths;
       rights = c.move_rows.ensures.rights c.args.width stored.rights;
