@@ -1,15 +1,16 @@
 -- What is read of the reduced row decides the answer.
-use Rattle.std.proofs.Common.{◌≡◌, ◌≢◌, ℕ, ◌+◌, ◌-◌, ◌<◌, ◌≤◌, List, length, get_or, Option, inl, inr, sym, ◌∙◌, ap, subst, arith}
+use Rattle.std.proofs.Common.{◌≡◌, ◌≢◌, ℕ, ◌+◌, ◌-◌, ◌<◌, ◌≤◌, Bool, false, List, length, get_or, Option, Some, inl, inr, sym, ◌∙◌, ap, subst, arith}
 use Rattle.std.proofs.lemmas.Bool.{cases_eq}
 use Rattle.sc_field.specs.Field.{IsField, IsAction}
 use Rattle.sc_echelon.specs.Equation.{Row, IsRow}
-use Rattle.sc_echelon.specs.Storage.{HasReach, IsZeroOutside}
+use Rattle.sc_echelon.specs.Storage.{HasReach, IsLoneUnless, IsZeroOutside}
+use Rattle.sc_echelon.specs.Table.{slot}
 use Rattle.sc_echelon.specs.Steps.{IsLeft, insert, led, reduce}
 use Rattle.sc_echelon.specs.Kept.{known_by, IsKept}
 use Rattle.sc_echelon.specs.Knowledge.{IsBytes, zero_bytes, xor_bytes, act_bytes, Follows, Contradicts, Adds}
 use Rattle.sc_echelon.proofs.Bytes.{bytes_module}
 use Rattle.sc_echelon.proofs.AddRow.{left-reduce}
-use Rattle.sc_echelon.proofs.KnowledgeLaws.{added_known, added_clash, added_new, adds_new, kept_new, reach_new}
+use Rattle.sc_echelon.proofs.KnowledgeLaws.{added_known, added_clash, added_new, adds_new, kept_new, reach_new, lone_new}
 
 pub left_reduced : {A : Type 0} {IsElement : A → Type 0} {zero one : A} {add sub mul : A → A → A} {inv : A → A} {act : A → ℕ → ℕ} (laws : IsField IsElement zero one add sub mul inv) (action : IsAction IsElement zero one add mul act)
     (n w : ℕ) (t : List (Option (Row A (List ℕ)))) → IsKept IsElement zero one n w t → (q m : Row A (List ℕ)) → IsRow IsElement (IsBytes w) n q → m ≡ reduce zero add sub mul xor_bytes (act_bytes act) t n q
@@ -56,6 +57,17 @@ module _ {A : Type 0} {IsElement : A → Type 0} {zero one : A} {add sub mul : A
         subst (λ (s : List (Option (Row A (List ℕ)))). HasReach zero more s) (sym e)
         (reach_new laws action n w t kept q m left p found_within found_nonzero reach more low end a b c near others.before
         (λ j l. ap (λ (ys : List A). get_or ys j zero) (sym same) ∙ zeros j l))
+
+    -- the rows that touch their pivot alone: the new one, where it is told of it, and those that were so before
+    pub found_lone : (mixed mixed' : List Bool) → IsLoneUnless zero mixed t → ((i : ℕ) → i ≢ p → get_or mixed' i false ≡ get_or mixed i false)
+        → (t' : List (Option (Row A (List ℕ)))) → t' ≡ insert zero add sub mul xor_bytes (act_bytes act) p (led zero mul inv (act_bytes act) p m) t
+        → ((j : ℕ) (r : Row A (List ℕ)) → slot t' p ≡ Some r → get_or mixed' p false ≡ false → p < j → get_or r.coeffs j zero ≡ zero) → IsLoneUnless zero mixed' t'
+    found_lone mixed mixed' lone flags t' e new i j r full off l = elim (cases_eq i p) [
+      | inl s ↦ new j r (ap (slot t') (sym s) ∙ full) (ap (λ (k : ℕ). get_or mixed' k false) (sym s) ∙ off) (omega arith)
+      | inr other ↦
+          lone_new laws action n w t kept q m left p found_within found_nonzero i j r other (ap (λ (s : List (Option (Row A (List ℕ)))). slot s i) (sym e) ∙ full)
+          (λ k r0 f. lone i k r0 f (sym (flags i other) ∙ off)) l
+    ]
 
   -- ---- none was found
   module _ (zeros : (j : ℕ) → j < length xs → get_or xs j zero ≡ zero) (bs : List ℕ) (right : bs ≡ m.right) where

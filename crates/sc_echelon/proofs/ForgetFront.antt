@@ -1,6 +1,6 @@
 -- The first columns are forgotten. The rows with a pivot there can be met by some values of those columns, whatever the
 -- others are, so they go; the other rows are zero there.
-use Rattle.std.proofs.Common.{◌≡◌, ℕ, ◌+◌, ◌-◌, ◌<◌, ◌≤◌, List, ◌++◌, length, get_or, map, take, drop, replicate, All, Option, None, Some, inl, inr, refl, sym, ◌∙◌, ap, ap₂, subst, arith}
+use Rattle.std.proofs.Common.{◌≡◌, ℕ, ◌+◌, ◌-◌, ◌<◌, ◌≤◌, Bool, false, List, ◌++◌, length, get_or, map, take, drop, replicate, All, Option, None, Some, inl, inr, refl, sym, ◌∙◌, ap, ap₂, subst, arith}
 use Rattle.std.proofs.lemmas.List.{length-map, length-replicate, length-append, length-drop, length-take-le, get_or-map, get_or-replicate, get_or-drop, get_or-take, get_or_append_left, get_or-append_right, get_or_past, take-append-drop, ext_get_or}
 use Rattle.std.proofs.lemmas.List.Elements.{All-append, All-take, All-drop}
 use Rattle.std.proofs.lemmas.Bool.{cases_lt}
@@ -8,13 +8,13 @@ use Rattle.sc_field.specs.Field.{IsField}
 use Rattle.sc_matrix.specs.Module.{IsModule}
 use Rattle.sc_matrix.specs.Vector.{dot, IsVector}
 use Rattle.sc_echelon.specs.Equation.{Row, IsRow, Meets}
-use Rattle.sc_echelon.specs.Storage.{HasReach}
+use Rattle.sc_echelon.specs.Storage.{HasReach, IsLoneUnless}
 use Rattle.sc_echelon.specs.Table.{slot, IsReduced, HasFirstPivots, SolvesTable}
 use Rattle.sc_echelon.specs.Steps.{shift, shift_row, forget}
 use Rattle.sc_matrix.proofs.ModuleLaws.{none_plus}
 use Rattle.sc_matrix.proofs.Modules.{field_module}
 use Rattle.sc_echelon.proofs.DotLaws.{minus_of, plus_minus, values_none, dot_value, dot_none, dot-join}
-use Rattle.sc_echelon.proofs.Settle.{cases_option, none_is_not_some, settle, settle_values, settle_free, settle_pivot, settle_solves}
+use Rattle.sc_echelon.proofs.Settle.{cases_option, none_is_not_some, slot_within, settle, settle_values, settle_free, settle_pivot, settle_solves}
 
 none_in_nones : {X : Type 0} (k i : ℕ) → get_or {A = Option X} (replicate k None) i None ≡ None
 none_in_nones {X} k i = elim (cases_lt i k) [
@@ -107,6 +107,15 @@ module _ {A V : Type 0} {IsElement : A → Type 0} {zero one : A} {add sub mul :
     reach-forget reach near i j r' e l =
         let (r, f, is_r) = forget_cases i r' e in
         ap (λ (x : Row A V). get_or x.coeffs j zero) is_r ∙ shifted_entry r j (form.rows (count + i) r f) ∙ near (count + i) (count + j) r f (omega arith)
+
+    pub lone-forget : (mixed : List Bool) → length mixed ≡ n → IsLoneUnless zero mixed t → IsLoneUnless zero (drop count mixed ++ replicate count false) (forget zero count t)
+    lone-forget mixed size lone i j r' e off l =
+        let (r, f, is_r) = forget_cases i r' e in
+        let w = slot_within t (count + i) r f in
+        let c = form.count in
+        let d = length-drop count mixed in
+        let flag : get_or mixed (count + i) false ≡ false = sym (get_or_append_left (drop count mixed) (replicate count false) false i (omega arith) ∙ get_or-drop count mixed i false) ∙ off in
+        ap (λ (x : Row A V). get_or x.coeffs j zero) is_r ∙ shifted_entry r j (form.rows (count + i) r f) ∙ lone (count + i) (count + j) r f flag (omega arith)
 
     -- ---- solutions
     module _ (vs : List V) (hv : IsVector IsValue n vs) where

@@ -124,6 +124,18 @@ module _ {A V : Type 0} {IsElement : A → Type 0} {zero one : A} {add sub mul :
           ])
     ]
 
+    -- a row that touches its pivot alone isn't changed
+    pub lone-insert : HasFirstPivots zero t → (i j : ℕ) (r' : Row A V) → i ≢ p → slot (insert zero add sub mul plus times p q t) i ≡ Some r' → ((k : ℕ) (r : Row A V) → slot t i ≡ Some r → i < k → get_or r.coeffs k zero ≡ zero) → i < j → get_or r'.coeffs j zero ≡ zero
+    lone-insert first i j r' other e alone l = elim (insert_cases p i q r' t within e) [
+      | inl (s, is_q) ↦ absurd (other s)
+      | inr (ne, (r, f, is_r)) ↦
+          ap (λ (x : Row A V). get_or x.coeffs j zero) is_r
+          ∙ still_zero i j r f (alone j r f l) (inl (elim (cases_lt i p) [
+            | inl before ↦ alone p r f before
+            | inr behind ↦ first i p r f (omega arith)
+          ]))
+    ]
+
     pub last-insert : HasLastPivots zero t → ((j : ℕ) → p < j → get_or q.coeffs j zero ≡ zero) → HasLastPivots zero (insert zero add sub mul plus times p q t)
     last-insert last zeros = λ i j r' e l. elim (insert_cases p i q r' t within e) [
       | inl (s, is_q) ↦ ap (λ (x : Row A V). get_or x.coeffs j zero) is_q ∙ zeros j (omega arith)
@@ -190,6 +202,9 @@ module _ {A V : Type 0} {IsElement : A → Type 0} {zero one : A} {add sub mul :
     pub reach-new : (reach more low end : ℕ) → reach ≤ more → end ≤ low + more → low ≤ p → HasReach zero reach t → ((i : ℕ) (r : Row A V) → slot t i ≡ Some r → i < low → get_or r.coeffs p zero ≡ zero)
         → ((j : ℕ) → end ≤ j → get_or m.coeffs j zero ≡ zero) → HasReach zero more (insert zero add sub mul plus times p (led zero mul inv times p m) t)
     reach-new reach more low end a b c near unchanged zeros = reach-insert n t form p lp (led zero mul inv times p m) led_row led_one led_clear reach more low end a b c near unchanged (λ j l. led_zero j (zeros j l))
+
+    pub lone-new : HasFirstPivots zero t → (i j : ℕ) (r' : Row A V) → i ≢ p → slot (insert zero add sub mul plus times p (led zero mul inv times p m) t) i ≡ Some r' → ((k : ℕ) (r : Row A V) → slot t i ≡ Some r → i < k → get_or r.coeffs k zero ≡ zero) → i < j → get_or r'.coeffs j zero ≡ zero
+    lone-new = lone-insert n t form p lp (led zero mul inv times p m) led_row led_one led_clear
 
     pub last-new : HasLastPivots zero t → ((j : ℕ) → p < j → get_or m.coeffs j zero ≡ zero) → HasLastPivots zero (insert zero add sub mul plus times p (led zero mul inv times p m) t)
     last-new last zeros = last-insert n t form p lp (led zero mul inv times p m) led_row led_one led_clear last (λ j l. led_zero j (zeros j l))

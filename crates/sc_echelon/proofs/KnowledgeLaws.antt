@@ -1,5 +1,5 @@
 -- What is known, kept as a reduced table of rows: each call of Knowledge is exact.
-use Rattle.std.proofs.Common.{◌≡◌, ◌≢◌, ℕ, ◌+◌, ◌-◌, ◌<◌, ◌≤◌, List, [], ◌++◌, length, get_or, take, replicate, Option, None, Some, inl, inr, sym, subst, ◌∙◌, arith}
+use Rattle.std.proofs.Common.{◌≡◌, ◌≢◌, ℕ, ◌+◌, ◌-◌, ◌<◌, ◌≤◌, Bool, false, List, [], ◌++◌, length, get_or, take, drop, replicate, Option, None, Some, inl, inr, sym, subst, ◌∙◌, arith}
 use Rattle.std.proofs.lemmas.List.{get_or_default, get_or-replicate, get_or_past, length-replicate, length-append, length-take-le, take_at}
 use Rattle.std.proofs.lemmas.List.Elements.{All-append, All-take}
 use Rattle.std.proofs.lemmas.Bool.{cases_lt}
@@ -10,13 +10,13 @@ use Rattle.sc_echelon.specs.Equation.{Row}
 use Rattle.sc_echelon.specs.Table.{slot, SolvesTable}
 use Rattle.sc_echelon.specs.Knowledge.{IsBytes, zero_bytes, xor_bytes, act_bytes, IsSolution, Follows, Contradicts, Adds, IsValueAt, IsOpenAt, Forgets}
 use Rattle.sc_echelon.specs.Kept.{known_by, IsKept}
-use Rattle.sc_echelon.specs.Storage.{HasReach}
+use Rattle.sc_echelon.specs.Storage.{HasReach, IsLoneUnless}
 use Rattle.sc_echelon.specs.Steps.{IsLeft, insert, led, forget}
 use Rattle.sc_echelon.proofs.Bytes.{bytes_module, one_bytes, one_bytes_value, one_bytes-nonzero}
 use Rattle.sc_echelon.proofs.Settle.{none_is_not_some, slot_within, a_solution}
 use Rattle.sc_echelon.proofs.AddRow.{known, clash, some_meets, some_fails}
-use Rattle.sc_echelon.proofs.Insert.{reduced-new, first-new, reach-new, solves-new, solves_rows}
-use Rattle.sc_echelon.proofs.ForgetFront.{reduced-forget, first-forget, reach-forget, forget_keeps, forget_completes}
+use Rattle.sc_echelon.proofs.Insert.{reduced-new, first-new, reach-new, lone-new, solves-new, solves_rows}
+use Rattle.sc_echelon.proofs.ForgetFront.{reduced-forget, first-forget, reach-forget, lone-forget, forget_keeps, forget_completes}
 use Rattle.sc_echelon.proofs.ValueOf.{Differ, value_told, free_differs, mixed_differs}
 
 module _ {A : Type 0} {IsElement : A → Type 0} {zero one : A} {add sub mul : A → A → A} {inv : A → A} {act : A → ℕ → ℕ} (laws : IsField IsElement zero one add sub mul inv) (action : IsAction IsElement zero one add mul act) where
@@ -51,6 +51,9 @@ module _ {A : Type 0} {IsElement : A → Type 0} {zero one : A} {add sub mul : A
     };
     first = λ i j r e l. no_slot n i r e;
   }
+
+  pub lone_start : (n : ℕ) (mixed : List Bool) → IsLoneUnless {A = A} {V = List ℕ} zero mixed (replicate n None)
+  lone_start n mixed i j r e = no_slot n i r e
 
   pub reach_start : (n : ℕ) → HasReach {A = A} {V = List ℕ} zero 0 (replicate n None)
   reach_start n i j r e l = no_slot n i r e
@@ -99,6 +102,9 @@ module _ {A : Type 0} {IsElement : A → Type 0} {zero one : A} {add sub mul : A
         pub reach_new : (reach more low end : ℕ) → reach ≤ more → end ≤ low + more → low ≤ p → HasReach zero reach t → ((i : ℕ) (r : Row A (List ℕ)) → slot t i ≡ Some r → i < low → get_or r.coeffs p zero ≡ zero)
             → ((j : ℕ) → end ≤ j → get_or m.coeffs j zero ≡ zero) → HasReach zero more with_row
         reach_new = reach-new laws (bytes w) n t kept.reduced q m left p lp ne
+
+        pub lone_new : (i j : ℕ) (r' : Row A (List ℕ)) → i ≢ p → slot with_row i ≡ Some r' → ((k : ℕ) (r : Row A (List ℕ)) → slot t i ≡ Some r → i < k → get_or r.coeffs k zero ≡ zero) → i < j → get_or r'.coeffs j zero ≡ zero
+        lone_new = lone-new laws (bytes w) n t kept.reduced q m left p lp ne kept.first
 
         pub adds_new : Adds act (known_by n w t) q (known_by n w with_row)
         adds_new vs = (
@@ -159,6 +165,9 @@ module _ {A : Type 0} {IsElement : A → Type 0} {zero one : A} {add sub mul : A
 
       pub reach_forget : (reach : ℕ) → HasReach zero reach t → HasReach zero reach without_front
       reach_forget = reach-forget laws (bytes w) n t kept.reduced kept.first count fits
+
+      pub lone_forget : (mixed : List Bool) → length mixed ≡ n → IsLoneUnless zero mixed t → IsLoneUnless zero (drop count mixed ++ replicate count false) without_front
+      lone_forget = lone-forget laws (bytes w) n t kept.reduced kept.first count fits
 
       pub forgets : Forgets act count (known_by n w t) (known_by n w without_front)
       forgets vs hv = (

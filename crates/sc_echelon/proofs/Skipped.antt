@@ -1,5 +1,5 @@
 -- What need not be looked at: a row is not changed where its entry in the column is a zero already.
-use Rattle.std.proofs.Common.{◌≡◌, ℕ, zero as naught, suc, ◌+◌, ◌<◌, ◌≤◌, Bool, true, false, List, length, get_or, Option, Some, inl, inr, refl, sym, ◌∙◌, ap, ap₂, subst, arith}
+use Rattle.std.proofs.Common.{◌≡◌, ℕ, zero as naught, suc, ◌+◌, ◌<◌, ◌≤◌, Bool, false, List, length, get_or, Option, Some, inl, inr, refl, sym, ◌∙◌, ap, ap₂, subst, arith}
 use Rattle.std.proofs.lemmas.List.{get_or_default}
 use Rattle.std.proofs.lemmas.Bool.{cases_eq, cases_lt, cases_Bool}
 use Rattle.sc_field.specs.Field.{IsField}
@@ -9,10 +9,10 @@ use Rattle.sc_matrix.specs.Vector.{IsVector, add_vectors}
 use Rattle.sc_matrix.proofs.Modules.{field_module, vector_module}
 use Rattle.sc_echelon.specs.Equation.{Row, IsRow}
 use Rattle.sc_echelon.specs.Table.{slot}
-use Rattle.sc_echelon.specs.Steps.{entry, plus_row, cleared, clear_at, eliminate, reduce}
-use Rattle.sc_echelon.specs.Storage.{place, table_of, ChangedBelow, HasRows, IsZeroOutside}
-use Rattle.sc_echelon.proofs.Settle.{cases_option, none_is_not_some}
-use Rattle.sc_echelon.proofs.StoredSteps.{slot_on, slot_off}
+use Rattle.sc_echelon.specs.Steps.{entry, plus_row, times_row, cleared, clear_at, eliminate, reduce}
+use Rattle.sc_echelon.specs.Storage.{place, table_of, ChangedBelow, HasRows, IsLoneUnless, IsZeroOutside}
+use Rattle.sc_echelon.proofs.Settle.{cases_option}
+use Rattle.sc_echelon.proofs.StoredSteps.{slot_on, slot_row}
 
 -- rows of the same width and as many columns
 pub HasRows-same : {A : Type 0} {IsElement : A → Type 0} {n w : ℕ} (used : List Bool) (rows : List (Row A (List ℕ))) (k v : ℕ) → k ≡ n → v ≡ w → HasRows IsElement n w used rows → HasRows IsElement k v used rows
@@ -30,6 +30,12 @@ module _ {A V : Type 0} {IsElement : A → Type 0} {zero one : A} {add sub mul :
       ∙ ap₂ (λ (cs : List A) (v : V). record { coeffs = cs; right = v })
       (ap (add_vectors add r.coeffs) (rows.times_zero q.coeffs vq) ∙ rows.plus_none r.coeffs vr)
       (ap (plus r.right) (ml.times_zero q.right hq.value) ∙ ml.plus_none r.right hr.value)
+
+  -- nothing is changed by one
+  pub times_row-one : (r : Row A V) → IsRow IsElement IsValue n r → times_row mul times one r ≡ r
+  times_row-one r hr =
+      let rows = vector_module (field_module laws) n in
+      ap₂ (λ (cs : List A) (v : V). record { coeffs = cs; right = v }) (rows.times_one r.coeffs (record { width = hr.width; entries = hr.elements })) (ml.times_one r.right hr.value)
 
   pub cleared-zero : (r q : Row A V) (p : ℕ) → IsRow IsElement IsValue n r → IsRow IsElement IsValue n q → entry zero r p ≡ zero → cleared zero add sub mul plus times r p q ≡ r
   cleared-zero r q p hr hq e = ap (λ (x : A). plus_row add mul plus times r (sub zero x) q) e ∙ plus_row-none r q hr hq
@@ -79,25 +85,23 @@ module _ {A V : Type 0} {IsElement : A → Type 0} {zero one : A} {add sub mul :
         left = λ i d l m. absurd (omega arith);
       }
 
--- Rows that are known to have a zero in the column, one after another.
-module _ {A V : Type 0} (zero : A) (end p : ℕ) (used : List Bool) (rows : List (Row A V)) (count : length rows ≡ length used) where
-  pub outside_off : (k m : ℕ) → m ≤ length used → ((i : ℕ) → k ≤ i → i < m → get_or used i false ≡ false) → IsZeroOutside zero k end p (table_of used rows) → IsZeroOutside zero m end p (table_of used rows)
-  outside_off k m fits off h = record {
+-- Rows before place p that are known to have a zero in its column, one after another.
+module _ {A V : Type 0} (zero : A) (p : ℕ) (mixed used : List Bool) (rows : List (Row A V)) (count : length rows ≡ length used) where
+  pub outside_lone : (k m : ℕ) → m ≤ p → ((i : ℕ) → k ≤ i → i < m → get_or mixed i false ≡ false) → IsLoneUnless zero mixed (table_of used rows) → IsZeroOutside zero k p p (table_of used rows) → IsZeroOutside zero m p p (table_of used rows)
+  outside_lone k m fits off lone h = record {
     before = λ i r e l. elim (cases_lt i k) [
       | inl low ↦ h.before i r e low
-      | inr high ↦ none_is_not_some (slot_off used rows count i r (omega arith) (off i high l)) e
+      | inr high ↦ lone i p r e (off i high l) (omega arith)
     ];
     after = h.after;
   }
 
-  pub outside_on : (k : ℕ) (q : Row A V) → k < length used → get_or used k false ≡ true → q ≡ get_or rows k q → get_or q.coeffs p zero ≡ zero → IsZeroOutside zero k end p (table_of used rows) → IsZeroOutside zero (k + 1) end p (table_of used rows)
-  outside_on k q l on is none h = record {
+  pub outside_row : (k : ℕ) (q : Row A V) → k < length used → q ≡ get_or rows k q → get_or q.coeffs p zero ≡ zero → IsZeroOutside zero k p p (table_of used rows) → IsZeroOutside zero (k + 1) p p (table_of used rows)
+  outside_row k q l is none h = record {
     before = λ i r e b. elim (cases_eq i k) [
       | inl s ↦
-          (let f : slot (table_of used rows) k ≡ Some q = slot_on used rows count k q l on is in
-          let g : slot (table_of used rows) i ≡ slot (table_of used rows) k = ap (slot (table_of used rows)) s in
-          let same : q ≡ r = cc in
-          ap (λ (x : Row A V). get_or x.coeffs p zero) (sym same) ∙ none)
+          (let full : slot (table_of used rows) k ≡ Some r = ap (slot (table_of used rows)) (sym s) ∙ e in
+          ap (λ (x : Row A V). get_or x.coeffs p zero) (sym (slot_row used rows count k q r l is full)) ∙ none)
       | inr ne ↦ h.before i r e (omega arith)
     ];
     after = h.after;

@@ -1,13 +1,14 @@
 -- The steps of the loops that work on stored rows.
 use Rattle.std.proofs.Common.{◌≡◌, ℕ, suc, ◌+◌, ◌<◌, ◌≤◌, Bool, true, false, List, length, get_or, set, All, Option, None, Some, inl, inr, sym, ◌∙◌, ap, subst, arith}
 use Rattle.std.proofs.lemmas.List.{get_or_default}
-use Rattle.std.proofs.lemmas.Bool.{cases_lt}
+use Rattle.std.proofs.lemmas.Bool.{cases_lt, cases_Bool}
 use Rattle.sc_matrix.specs.Vector.{add_vectors, scale_vector}
 use Rattle.sc_matrix.proofs.VectorLaws.{length-add_vectors, length-scale_vector}
 use Rattle.sc_echelon.specs.Equation.{Row}
 use Rattle.sc_echelon.specs.Table.{slot}
 use Rattle.sc_echelon.specs.Steps.{plus_row, clear_at, cleared, eliminate, reduce}
 use Rattle.sc_echelon.specs.Storage.{place, table_of, ChangedBelow}
+use Rattle.sc_echelon.proofs.Settle.{none_is_not_some}
 use Rattle.sc_echelon.proofs.StorageLaws.{slot-table_of, changed_on}
 
 module _ {X : Type 0} (used : List Bool) (rows : List X) (count : length rows ≡ length used) where
@@ -16,6 +17,13 @@ module _ {X : Type 0} (used : List Bool) (rows : List X) (count : length rows �
 
   pub slot_off : (k : ℕ) (d : X) → k < length used → get_or used k false ≡ false → slot (table_of used rows) k ≡ None
   slot_off k d l off = slot-table_of used rows k d count l ∙ ap (λ (b : Bool). place b (get_or rows k d)) off
+
+  -- what stands at a place is the row there
+  pub slot_row : (k : ℕ) (q r : X) → k < length used → q ≡ get_or rows k q → slot (table_of used rows) k ≡ Some r → q ≡ r
+  slot_row k q r l is full = elim (cases_Bool (get_or used k false)) [
+    | inl on ↦ (let here : slot (table_of used rows) k ≡ Some q = slot_on k q l on is in cc)
+    | inr off ↦ none_is_not_some (slot_off k q l off) full
+  ]
 
 -- ---- a row is reduced
 pub width_at : {X : Type 0} (size : X → ℕ) (n : ℕ) (rows : List X) (k : ℕ) (r : X) → k < length rows → r ≡ get_or rows k r → All (λ x. size x ≡ n) rows → size r ≡ n

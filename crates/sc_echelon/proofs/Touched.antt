@@ -171,6 +171,15 @@ IsTouched-read from end xs ys zs e f order within before after = record {
   after = λ j l. ap (λ (us : List ℕ). get_or us j 0) f ∙ after j l;
 }
 
+-- fewer zeros are left out on both sides
+pub IsTouched-wider : (xs : List ℕ) (from end first last : ℕ) → first ≤ from → end ≤ last → last ≤ length xs → IsTouched from end xs → IsTouched first last xs
+IsTouched-wider xs from end first last a b fits h = record {
+  order = (let o = h.order in omega arith);
+  within = fits;
+  before = λ j l. h.before j (omega arith);
+  after = λ j l. h.after j (omega arith);
+}
+
 -- more zeros are left out on both sides
 pub IsTouched-trimmed : (xs ys : List ℕ) (a b from end : ℕ) → ys ≡ xs → IsTouched a b xs → from ≤ end → end ≤ b → ((j : ℕ) → a ≤ j → j < from → get_or ys j 0 ≡ 0) → ((j : ℕ) → end ≤ j → j < b → get_or ys j 0 ≡ 0) → IsTouched from end xs
 IsTouched-trimmed xs ys a b from end e h order within before after =

@@ -41,11 +41,17 @@ pub record IsZeroOutside {A V : Type 0} (zero : A) (first end p : ℕ) (t : List
 abbrev pub HasReach : {A V : Type 0} → A → ℕ → List (Option (Row A V)) → Type 0
 HasReach {A} {V} zero reach t = (i j : ℕ) (r : Row A V) → slot t i ≡ Some r → i + reach ≤ j → slice_index_or r.coeffs j zero ≡ zero
 
+-- each row of a table whose flag is off is zero behind its own place
+abbrev pub IsLoneUnless : {A V : Type 0} → A → List Bool → List (Option (Row A V)) → Type 0
+IsLoneUnless {A} {V} zero mixed t = (i j : ℕ) (r : Row A V) → slot t i ≡ Some r → slice_index_or mixed i false ≡ false → i < j → slice_index_or r.coeffs j zero ≡ zero
+
 -- How what is known is stored: as many rows as columns, each with room for an equation, and one more to work on.
-pub record IsStored {A : Type 0} (IsElement : A → Type 0) (zero one : A) (w reach : ℕ) (used : List Bool) (rows : List (Row A (List ℕ))) (work : Row A (List ℕ)) : Type 0 where
+pub record IsStored {A : Type 0} (IsElement : A → Type 0) (zero one : A) (w reach : ℕ) (mixed used : List Bool) (rows : List (Row A (List ℕ))) (work : Row A (List ℕ)) : Type 0 where
   pub some : 0 < w
   pub kept : IsKept IsElement zero one (length used) w (table_of used rows)
   pub near : HasReach zero reach (table_of used rows)
+  pub lone : IsLoneUnless zero mixed (table_of used rows)
+  pub flags : length mixed ≡ length used
   pub count : length rows ≡ length used
   pub widths : All (λ r. length r.coeffs ≡ length used) rows
   pub rights : All (λ r. length r.right ≡ w) rows

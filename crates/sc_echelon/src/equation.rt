@@ -169,6 +169,7 @@ impl<F: Field> Equation<F> {
     }
 
     // Adds `c` times `other`. Where `c` is zero nothing is done, and no further column is touched.
+    #[inline(always)]
     pub(crate) fn add_multiple(&mut self, c: F, other: &Equation<F>, tables: &mut Tables<F>)
         requires coeffs { length self.old.coeffs ≡ length other.now.coeffs }
         requires right { length self.old.right ≡ length other.now.right }
@@ -188,6 +189,7 @@ impl<F: Field> Equation<F> {
     }
 
     // The same, whatever `c` is.
+    #[inline(always)]
     fn add_scaled(&mut self, c: F, other: &Equation<F>, tables: &mut Tables<F>)
         requires coeffs { length self.old.coeffs ≡ length other.now.coeffs }
         requires right { length self.old.right ≡ length other.now.right }
@@ -224,6 +226,11 @@ impl<F: Field> Equation<F> {
         ensures { self.new ≡ times_row F.mul (act_bytes F.act) c self.old }
     {
         self.trim();
+        self.known();
+        c.known();
+        if c == F::one() {
+            return;
+        }
         match tables.find(c) {
             Some(by) => self.multiply_by(by),
             None => {
@@ -375,6 +382,7 @@ fn zeros_behind(xs: &[u8], from: usize) -> usize
 }
 
 // Adds `c` times `one` to `first`, and `c` times `other` to `second`. `one` is zero but for the bytes from `from` up to `end`.
+#[inline(always)]
 fn add_both<F: Field>(
     c: F,
     tables: &mut Tables<F>,
@@ -433,6 +441,7 @@ fn adds_nothing<F: Field>(c: F, first: &[u8], one: &[u8], second: &[u8], other: 
 }
 
 // The same, by a multiplier.
+#[inline(always)]
 fn add_by<F: Field>(
     by: &Multiplier<F>,
     first: &mut Window,
@@ -448,19 +457,7 @@ fn add_by<F: Field>(
     ensures first { first.new ≡ scaled_sum (F.act by.now.coefficient) first.old one.now }
     ensures second { second.new ≡ scaled_sum (F.act by.now.coefficient) second.old other.now }
 {
-    first.add_between(by, one, from, end);
-    add_right(by, second, other);
-}
-
-// Adds a multiple of the bytes of a right side, where there are any: the equations of a matrix have none.
-#[inline(always)]
-fn add_right<F: Field>(by: &Multiplier<F>, right: &mut [u8], other: &[u8])
-    requires { length other.now ≡ length right.old }
-    ensures { right.new ≡ scaled_sum (F.act by.now.coefficient) right.old other.now }
-{
-    if !right.is_empty() {
-        by.scale_add(right, other);
-    }
+    first.add_between(by, one, from, end, second, other);
 }
 
 // The first place with a byte other than 0.

@@ -35,6 +35,7 @@ pub enum Added {
 pub struct Knowledge<F: Field> {
     width: usize,
     reach: usize,
+    mixed: Vec<bool>,
     used: Vec<bool>,
     rows: Vec<Equation<F>>,
     work: Equation<F>,
@@ -53,7 +54,7 @@ impl<F: Field> Model for Knowledge<F> {
 
     ghost view = { λ k. known_by (length k.used.items) k.width (table_of k.used.items k.rows.items) };
 
-    ghost invariant = { λ k. IsStored F.IsElement F.zero F.one k.width k.reach k.used.items k.rows.items k.work };
+    ghost invariant = { λ k. IsStored F.IsElement F.zero F.one k.width k.reach k.mixed.items k.used.items k.rows.items k.work };
 }
 
 impl<F: Field> Knowledge<F> {
@@ -68,12 +69,14 @@ impl<F: Field> Knowledge<F> {
         ensures { IfOk result (λ k. k ≡ nothing_known cols width) }
     {
         let used = vec![in alloc; false; cols]?;
+        let mixed = vec![in alloc; false; cols]?;
         let rows = blank_rows(alloc, cols, cols, width)?;
         let work = Equation::zeros(alloc, cols, cols, width)?;
         let tables = Tables::all(alloc)?;
         Ok(Knowledge {
             width,
             reach: 0,
+            mixed,
             used,
             rows,
             work,
@@ -128,6 +131,7 @@ impl<F: Field> Knowledge<F> {
         add_work(
             self.rows.as_mut_slice(),
             self.used.as_mut_slice(),
+            self.mixed.as_mut_slice(),
             &mut self.work,
             width,
             &mut self.reach,
@@ -171,6 +175,7 @@ impl<F: Field> Knowledge<F> {
         forget_rows(
             self.rows.as_mut_slice(),
             self.used.as_mut_slice(),
+            self.mixed.as_mut_slice(),
             &self.work,
             width,
             reach,

@@ -4,7 +4,7 @@
 ghost use Rattle.std.specs.Prelude.{◌≡◌, ◌≢◌, ◌+◌, ◌++◌, ◌↔◌, ◌<◌, ◌≤◌, ℕ, IfOk, All, true, false, length, map, drop, replicate, slice_index_or};
 ghost use Rattle.sc_echelon.specs.Equation.{IsRow};
 ghost use Rattle.sc_echelon.specs.Kept.{known_by, IsKept};
-ghost use Rattle.sc_echelon.specs.Storage.{table_of, ChangedBelow, HasRows, IsStored, IsZeroOutside, MovedBelow};
+ghost use Rattle.sc_echelon.specs.Storage.{table_of, ChangedBelow, HasRows, IsLoneUnless, IsStored, IsZeroOutside, MovedBelow};
 ghost use Rattle.sc_echelon.specs.Steps.{clear_at, insert, led, reduce};
 ghost use Rattle.sc_echelon.specs.Knowledge.{IsBytes, zero_bytes, xor_bytes, act_bytes, Follows, Contradicts, Adds, Forgets};
 
@@ -150,28 +150,29 @@ fn is_zero_at<F: Field>(row: &Equation<F>, p: usize) -> bool
     row.coeff(p) == F::zero()
 }
 
-// The first row in use whose coefficient at column `p` is not zero, or `end` where there is none. No row but those from `first`
-// up to `end` has another coefficient than zero in it.
+// The first row before place `p` whose coefficient at column `p` is not zero, or `p` where there is none. No row but those from
+// `first` up to `p` has another coefficient than zero in it. A row that isn't flagged as mixed touches its pivot alone.
 fn first_touched<F: Field>(
     rows: &[Equation<F>],
     used: &[bool],
+    mixed: &[bool],
     p: usize,
     first: usize,
-    end: usize,
 ) -> usize
     requires count { length rows.now ≡ length used.now }
+    requires flags { length mixed.now ≡ length used.now }
     requires p_in { p < length used.now }
     requires widths { All (λ r. length r.coeffs ≡ length used.now) rows.now }
-    requires order { first ≤ end }
-    requires range { end ≤ length used.now }
-    requires others { IsZeroOutside F.zero first end p (table_of used.now rows.now) }
+    requires order { first ≤ p }
+    requires lone { IsLoneUnless F.zero mixed.now (table_of used.now rows.now) }
+    requires others { IsZeroOutside F.zero first p p (table_of used.now rows.now) }
     ensures order { first ≤ result }
-    ensures within { result ≤ end }
-    ensures others { IsZeroOutside F.zero result end p (table_of used.now rows.now) }
+    ensures within { result ≤ p }
+    ensures others { IsZeroOutside F.zero result p p (table_of used.now rows.now) }
 {
-    let mut k = next_on(used, first, end);
-    while k < end && is_zero_at(&rows[k], p) {
-        k = next_on(used, k + 1, end);
+    let mut k = next_on(mixed, first, p);
+    while k < p && is_zero_at(&rows[k], p) {
+        k = next_on(mixed, k + 1, p);
     }
     k
 }
@@ -246,18 +247,20 @@ pub(crate) fn insert_row<F: Field>(
     used[p] = true;
 }
 
-// Adds the equation in the work row to the table. No row in use touches a column that lies `reach` or more behind its pivot.
+// Adds the equation in the work row to the table. No row in use touches a column that lies `reach` or more behind its pivot, and
+// none that isn't flagged as mixed touches another column than its pivot.
 pub(crate) fn add_work<F: Field>(
     rows: &mut [Equation<F>],
     used: &mut [bool],
+    mixed: &mut [bool],
     work: &mut Equation<F>,
     width: usize,
     reach: &mut usize,
     tables: &mut Tables<F>,
 ) -> Added
-    requires stored { IsStored F.IsElement F.zero F.one width reach.old used.old rows.old work.old }
+    requires stored { IsStored F.IsElement F.zero F.one width reach.old mixed.old used.old rows.old work.old }
     requires row { IsRow F.IsElement (IsBytes width) (length used.old) work.old }
-    ensures stored { IsStored F.IsElement F.zero F.one width reach.new used.new rows.new work.new }
+    ensures stored { IsStored F.IsElement F.zero F.one width reach.new mixed.new used.new rows.new work.new }
     ensures flags { length used.new ≡ length used.old }
     ensures known { result ≡ Added.Known ↔ Follows F.act (known_by (length used.old) width (table_of used.old rows.old)) work.old }
     ensures clash { result ≡ Added.Clash ↔ Contradicts F.act (known_by (length used.old) width (table_of used.old rows.old)) work.old }
@@ -269,8 +272,9 @@ pub(crate) fn add_work<F: Field>(
     match work.first_nonzero() {
         Some(p) => {
             let end = work.end();
-            let low = first_touched(rows, used, p, p.saturating_sub(*reach), p);
+            let low = first_touched(rows, used, mixed, p, p.saturating_sub(*reach));
             insert_row(rows, used, work, p, low, p, tables);
+            mixed[p] = p + 1 < rows[p].end();
             *reach = (*reach).max(end.saturating_sub(low));
             Added::New
         }
@@ -315,18 +319,20 @@ fn shift_flags(flags: &mut [bool], count: usize)
 pub(crate) fn forget_rows<F: Field>(
     rows: &mut [Equation<F>],
     used: &mut [bool],
+    mixed: &mut [bool],
     work: &Equation<F>,
     width: usize,
     reach: usize,
     count: usize,
 )
-    requires stored { IsStored F.IsElement F.zero F.one width reach used.old rows.old work.now }
+    requires stored { IsStored F.IsElement F.zero F.one width reach mixed.old used.old rows.old work.now }
     requires fits { count ≤ length used.old }
-    ensures stored { IsStored F.IsElement F.zero F.one width reach used.new rows.new work.now }
+    ensures stored { IsStored F.IsElement F.zero F.one width reach mixed.new used.new rows.new work.now }
     ensures flags { length used.new ≡ length used.old }
     ensures solutions { Forgets F.act count (known_by (length used.old) width (table_of used.old rows.old))
         (known_by (length used.old) width (table_of used.new rows.new)) }
 {
     move_rows(rows, used, count);
     shift_flags(used, count);
+    shift_flags(mixed, count);
 }

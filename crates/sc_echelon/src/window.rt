@@ -92,24 +92,34 @@ impl Window {
         write_numbers(self.bytes.as_mut_slice(), self.from, xs);
     }
 
-    // Adds a multiple of as many bytes, which are zero but for those from `from` up to `end`.
+    // Adds a multiple of as many bytes, which are zero but for those from `from` up to `end`, and as many times some other bytes
+    // to a right side.
+    #[inline(always)]
     pub(crate) fn add_between<F: Field>(
         &mut self,
         by: &Multiplier<F>,
         src: &[u8],
         from: usize,
         end: usize,
+        right: &mut [u8],
+        other: &[u8],
     )
         requires size { length src.now ≡ length self.old }
         requires touched { IsTouched from end src.now }
-        ensures { self.new ≡ scaled_sum (F.act by.now.coefficient) self.old src.now }
+        requires right { length other.now ≡ length right.old }
+        ensures value { self.new ≡ scaled_sum (F.act by.now.coefficient) self.old src.now }
+        ensures right { right.new ≡ scaled_sum (F.act by.now.coefficient) right.old other.now }
     {
         by.coefficient.known();
+        let first = whole_from(from, end, src.len());
+        let last = whole_end(first, end, src.len());
         add_part(
             by,
             self.bytes.as_mut_slice(),
-            self.from + from,
-            &src[from..end],
+            self.from + first,
+            &src[first..last],
+            right,
+            other,
         );
     }
 
@@ -132,14 +142,54 @@ fn write_at(bytes: &mut [u8], at: usize, src: &[u8])
     bytes[at..end].copy_from_slice(src);
 }
 
-// Adds a multiple of some bytes to as many at a place.
-fn add_part<F: Field>(by: &Multiplier<F>, bytes: &mut [u8], at: usize, src: &[u8])
-    requires { at + length src.now ≤ length bytes.old }
-    ensures { bytes.new ≡ put_mid at (length src.now) bytes.old
+// Where to begin, so that there are 16 places of `count` from there on, if there are so many: a whole vector is added faster
+// than a part of it.
+#[inline(always)]
+fn whole_from(from: usize, end: usize, count: usize) -> usize
+    requires order { from ≤ end }
+    requires within { end ≤ count }
+    ensures { result ≤ from }
+{
+    if end - from < 16 && count - from < 16 {
+        count.saturating_sub(16)
+    } else {
+        from
+    }
+}
+
+// Where to end, so that the places from `from` on are 16 at least, if there are so many.
+#[inline(always)]
+fn whole_end(from: usize, end: usize, count: usize) -> usize
+    requires order { from ≤ end }
+    requires within { end ≤ count }
+    ensures order { end ≤ result }
+    ensures within { result ≤ count }
+{
+    if end - from < 16 && count - from >= 16 {
+        from + 16
+    } else {
+        end
+    }
+}
+
+// Adds a multiple of some bytes to as many at a place, and as many times some other bytes to a right side.
+#[inline(always)]
+fn add_part<F: Field>(
+    by: &Multiplier<F>,
+    bytes: &mut [u8],
+    at: usize,
+    src: &[u8],
+    right: &mut [u8],
+    other: &[u8],
+)
+    requires room { at + length src.now ≤ length bytes.old }
+    requires right { length other.now ≡ length right.old }
+    ensures value { bytes.new ≡ put_mid at (length src.now) bytes.old
         (scaled_sum (F.act by.now.coefficient) (take (length src.now) (drop at bytes.old)) src.now) }
+    ensures right { right.new ≡ scaled_sum (F.act by.now.coefficient) right.old other.now }
 {
     let end = at + src.len();
-    by.scale_add(&mut bytes[at..end], src);
+    by.scale_add_both(&mut bytes[at..end], src, right, other);
 }
 
 // Multiplies some bytes at a place.

@@ -74,6 +74,38 @@ impl<F: Field> Multiplier<F> {
         }
     }
 
+    /// Adds the coefficient times `one` to `first`, and the coefficient times `other` to `second`.
+    ///
+    /// It does what [`Multiplier::scale_add`] would with each, and looks the products up in tables that are read once.
+    pub fn scale_add_both(&self, first: &mut [u8], one: &[u8], second: &mut [u8], other: &[u8])
+        requires first { length one.now ≡ length first.old }
+        requires second { length other.now ≡ length second.old }
+        ensures first { first.new ≡ scaled_sum (F.act self.now.coefficient) first.old one.now }
+        ensures second { second.new ≡ scaled_sum (F.act self.now.coefficient) second.old other.now }
+    {
+        if add_unscaled(first, self.coefficient, one) {
+            self.scale_add(second, other);
+        } else {
+            self.add_scaled_both(first, one, second, other);
+        }
+    }
+
+    #[inline(always)]
+    fn add_scaled_both(&self, first: &mut [u8], one: &[u8], second: &mut [u8], other: &[u8])
+        requires first { length one.now ≡ length first.old }
+        requires second { length other.now ≡ length second.old }
+        ensures first { first.new ≡ scaled_sum (F.act self.now.coefficient) first.old one.now }
+        ensures second { second.new ≡ scaled_sum (F.act self.now.coefficient) second.old other.now }
+    {
+        let term = Term {
+            multiplier: *self,
+            at: 0,
+        };
+        let rest = [];
+        write_sum(first, &term, &rest, one, false);
+        write_sum(second, &term, &rest, other, false);
+    }
+
     #[inline(always)]
     fn add_scaled(&self, dst: &mut [u8], src: &[u8])
         requires { length src.now ≡ length dst.old }

@@ -84,7 +84,7 @@ pub(crate) fn write_sum<F: Field>(
 {
     if dst.len() > 64 {
         write_long(dst, first, rest, src, fresh);
-    } else if dst.len() >= 32 {
+    } else if dst.len() > 32 {
         write_pair(dst, first, rest, src, fresh);
     } else if dst.len() >= 16 {
         write_halves(dst, first, rest, src, fresh);

@@ -164,6 +164,16 @@ fn one_source(rt: &impl Abort, number: u8, n: usize)
     Multiplier::new(c).scale_add(&mut now[3..n + 3], &src[..n]);
     written(rt, "Multiplier::scale_add", &now, &old, &sum, n);
     now = old;
+    let mut other = old;
+    Multiplier::new(c).scale_add_both(
+        &mut now[3..n + 3],
+        &src[..n],
+        &mut other[3..n + 3],
+        &src[..n],
+    );
+    written(rt, "the first of scale_add_both", &now, &old, &sum, n);
+    written(rt, "the second of scale_add_both", &other, &old, &sum, n);
+    now = old;
     Multiplier::new(c).set(&mut now[3..n + 3], &src[..n]);
     written(rt, "Multiplier::set", &now, &old, &product, n);
     now = old;

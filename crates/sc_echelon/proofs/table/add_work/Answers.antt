@@ -1,7 +1,10 @@
-use Rattle.std.proofs.Common.{length, refl, sym, ◌∙◌, arith}
+use Rattle.std.proofs.Common.{◌≡◌, ◌+◌, ◌<◌, ◌≤◌, false, set, get_or, ltb, length, refl, sym, ◌∙◌, ap, arith}
+use Rattle.std.proofs.lemmas.List.{length-set, get_or-set_same, get_or-set_other}
+use Rattle.std.proofs.lemmas.Bool.{ltb-false}
 use Rattle.sc_echelon.specs.Storage.{table_of}
 use Rattle.sc_echelon.proofs.Skipped.{HasRows-same}
-use Rattle.sc_echelon.proofs.AddWork.{found_others, found_reach, left_reduced, found_new, found_adds, found_kept, none_known, none_clash}
+use Rattle.sc_echelon.proofs.StoredSteps.{slot_row}
+use Rattle.sc_echelon.proofs.AddWork.{found_others, found_reach, found_lone, left_reduced, found_new, found_adds, found_kept, none_known, none_clash}
 use Rattle.sc_echelon.proofs.table.add_work.Goals as goal
 
 pub returns-in-Some-clause-stored : goal.returns-in-Some-clause-stored
@@ -22,6 +25,21 @@ returns-in-Some-clause-stored g c =
           found_reach g.met.F.Field.field g.met.F.Field.action (length c.args.used.now) c.args.width t stored.kept c.args.work.now m left m.coeffs refl c.in-Some.p c.in-Some.ensures.0 c.in-Some.ensures.1
           c.args.reach.now c.max.result c.first_touched-low.result c.end-end.result (omega arith) (omega arith) low.within stored.near low.others c.end-end.ensures.zeros
           (table_of c.insert_row.new.used c.insert_row.new.rows) c.insert_row.ensures.table);
+      lone =
+          (let p = c.in-Some.p in
+          let q = c.index-rows-p.result in
+          let b = ltb (c.in-Some.p + 1) c.end.result in
+          let size = stored.flags in
+          let width = left.row.width in
+          let inside : c.in-Some.p < length c.args.used.now = (let i = c.in-Some.ensures.0 in omega arith) in
+          found_lone g.met.F.Field.field g.met.F.Field.action (length c.args.used.now) c.args.width t stored.kept c.args.work.now m left m.coeffs refl p c.in-Some.ensures.0 c.in-Some.ensures.1
+          c.args.mixed.now (set c.args.mixed.now p b) stored.lone (λ i other. get_or-set_other c.args.mixed.now p i b false other)
+          (table_of c.insert_row.new.used c.insert_row.new.rows) c.insert_row.ensures.table
+          (λ j r full off l.
+          let is : q ≡ r = slot_row c.insert_row.new.used c.insert_row.new.rows c.insert_row.ensures.count p q r (omega arith) c.index-rows-p.is full in
+          let ends : c.end.result ≤ c.in-Some.p + 1 = ltb-false (c.in-Some.p + 1) c.end.result (sym (get_or-set_same c.args.mixed.now p b false (omega arith)) ∙ off) in
+          ap (λ x. get_or x.coeffs j g.F.Field.zero) (sym is ∙ c.index-rows-p.is) ∙ c.end.ensures.zeros j (omega arith)));
+      flags = length-set c.args.mixed.now c.in-Some.p (ltb (c.in-Some.p + 1) c.end.result) ∙ stored.flags ∙ sym flags;
       count = c.insert_row.ensures.count;
       widths = λ k d l. c.insert_row.ensures.widths k d l ∙ left.row.width ∙ sym flags;
       rights = λ k d l. c.insert_row.ensures.rights k d l ∙ left.row.value.width;

@@ -1,11 +1,11 @@
-use Rattle.std.proofs.Common.{◌≡◌, false, length, drop, replicate, All, sym, subst, ◌∙◌, ap, arith}
+use Rattle.std.proofs.Common.{◌≡◌, ◌++◌, false, length, drop, replicate, All, sym, subst, ◌∙◌, ap, arith}
 use Rattle.std.proofs.lemmas.List.{length-append, length-drop, length-replicate}
 use Rattle.sc_echelon.specs.Steps.{forget}
 use Rattle.sc_echelon.specs.Kept.{known_by, IsKept}
-use Rattle.sc_echelon.specs.Storage.{table_of, HasReach}
+use Rattle.sc_echelon.specs.Storage.{table_of, HasReach, IsLoneUnless}
 use Rattle.sc_echelon.specs.Knowledge.{Forgets}
 use Rattle.sc_echelon.proofs.StoredForget.{forget_stored}
-use Rattle.sc_echelon.proofs.KnowledgeLaws.{forgets, kept_forget, reach_forget}
+use Rattle.sc_echelon.proofs.KnowledgeLaws.{forgets, kept_forget, reach_forget, lone_forget}
 use Rattle.sc_echelon.proofs.table.forget_rows.Goals as goal
 
 pub returns-clause-solutions : goal.returns-clause-solutions
@@ -44,6 +44,15 @@ returns-clause-stored g c =
       near =
           subst (λ t. HasReach g.F.Field.zero c.args.reach t) (sym table)
           (reach_forget g.met.F.Field.field g.met.F.Field.action n c.args.width (table_of used old) kept count fits c.args.reach stored.near);
+      lone =
+          subst (λ fs. IsLoneUnless g.F.Field.zero fs (table_of c.shift_flags.new.flags c.move_rows.new.rows)) (sym c.shift_flags-2.ensures)
+          (subst (λ t. IsLoneUnless g.F.Field.zero (drop count c.args.mixed.now ++ replicate count false) t) (sym table)
+          (lone_forget g.met.F.Field.field g.met.F.Field.action n c.args.width (table_of used old) kept count fits c.args.mixed.now stored.flags stored.lone));
+      flags =
+          (let e = stored.flags in
+          let a' = length-append (drop count c.args.mixed.now) (replicate count false) in
+          let b' = length-drop count c.args.mixed.now in
+          ap length c.shift_flags-2.ensures ∙ omega arith) ∙ sym same;
       count = c.move_rows.ensures.moved.size ∙ stored.count ∙ sym same;
       widths = subst (λ k. All (λ r. length r.coeffs ≡ k) c.move_rows.new.rows) (sym same) c.move_rows.ensures.widths;
       rights = c.move_rows.ensures.rights c.args.width stored.rights;
