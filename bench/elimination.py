@@ -1,5 +1,5 @@
 #!/usr/bin/env python3
-"""How fast equations are reduced: elimination.py [RUNS]. rt builds bench/elimination.rt as a crate of a clone, gcc bench/elimination.c.
+"""How fast equations are reduced: elimination.py [RUNS]. rt builds bench/elimination.rt.in as a crate of a clone, gcc bench/elimination.c.
 
 Reduced forms of 1,000 rows and 144 columns; rows added to what is known of 40, 360 and 6,615 columns, dense or with runs of
 coefficients; and windows that move on by 9 columns at each slot, in two of three of which 9 columns are told one by one before
@@ -64,10 +64,10 @@ with tempfile.TemporaryDirectory() as folder:
     subprocess.run(["git", "clone", "-q", os.path.dirname(here), path("clone")], check=True)
     crate = path("clone/crates/elimination")
     os.makedirs(os.path.join(crate, "src"))
-    shutil.copy(os.path.join(here, "elimination.rt"), os.path.join(crate, "src/main.rt"))
+    shutil.copy(os.path.join(here, "elimination.rt.in"), os.path.join(crate, "src/main.rt"))
     with open(path("clone/crates.txt"), "a") as file:
         file.write("elimination: sc_field sc_outside sc_matrix sc_echelon\n")
-    print("proving and building bench/elimination.rt", file=sys.stderr)
+    print("proving and building bench/elimination.rt.in", file=sys.stderr)
     subprocess.run(["rt", "run"], cwd=crate, stdin=subprocess.DEVNULL, stdout=subprocess.DEVNULL, check=True)
     ours = os.path.join(crate, "out/elimination")
 
