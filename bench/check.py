@@ -15,6 +15,8 @@ import sys
 import tempfile
 import time
 
+from common import inverse
+
 program, runs = os.path.abspath(sys.argv[1]), int(sys.argv[2]) if len(sys.argv) > 2 else 5
 here = os.path.dirname(os.path.abspath(__file__))
 
@@ -62,16 +64,6 @@ def diagonal(channel, k, r):
     return {"channel": channel, "k": k, "lags": lags, "r": r}
 
 
-def times(x, y):
-    product = 0
-    for bit in range(8):
-        product ^= x << bit if y >> bit & 1 else 0
-    for bit in range(14, 7, -1):
-        product ^= 0x11D << (bit - 8) if product >> bit & 1 else 0
-    return product
-
-
-inverse = {x: next(y for y in range(1, 256) if times(x, y) == 1) for x in range(1, 256)}
 codes = {
     "layered": layered(41, 10, 4, 40, 0),
     "dense": dense([21, 5, 5, 20], 9, 4, 1),

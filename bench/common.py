@@ -1,4 +1,4 @@
-"""What the measures of protect and of repair share: codes along the diagonals of slots, and the time and the memory of a program."""
+"""What the measures share: codes along the diagonals of slots, products of bytes, and the time and the memory of a program."""
 import os
 import subprocess
 import time
