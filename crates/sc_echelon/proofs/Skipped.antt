@@ -1,6 +1,6 @@
 -- What need not be looked at: a row is not changed where its entry in the column is a zero already.
-use Rattle.std.proofs.Common.{◌≡◌, ℕ, zero as naught, suc, ◌+◌, ◌<◌, ◌≤◌, Bool, false, List, length, get_or, Option, Some, inl, inr, refl, sym, ◌∙◌, ap, ap₂, subst, arith}
-use Rattle.std.proofs.lemmas.List.{get_or_default}
+use Rattle.std.proofs.Common.{◌≡◌, ℕ, zero as naught, suc, ◌+◌, ◌<◌, ◌≤◌, Bool, false, List, length, get_or, set, Option, Some, inl, inr, refl, sym, ◌∙◌, ap, ap₂, subst, arith}
+use Rattle.std.proofs.lemmas.List.{length-set, get_or_default, get_or-set_same, get_or-set_other, ext_get_or}
 use Rattle.std.proofs.lemmas.Bool.{cases_eq, cases_lt, cases_Bool}
 use Rattle.sc_field.specs.Field.{IsField}
 use Rattle.sc_field.specs.FieldLemmas.{sub_self}
@@ -11,6 +11,8 @@ use Rattle.sc_echelon.specs.Equation.{Row, IsRow}
 use Rattle.sc_echelon.specs.Table.{slot}
 use Rattle.sc_echelon.specs.Steps.{entry, plus_row, times_row, cleared, clear_at, eliminate, reduce}
 use Rattle.sc_echelon.specs.Storage.{place, table_of, ChangedBelow, HasRows, IsLoneUnless, IsZeroOutside}
+use Rattle.sc_echelon.specs.Touched.{IsZeroBut}
+use Rattle.sc_echelon.proofs.RowOperations.{negative_element, entry_element, IsRow-plus_row, entry-plus_zero, entry-cleared}
 use Rattle.sc_echelon.proofs.Settle.{cases_option}
 use Rattle.sc_echelon.proofs.StoredSteps.{slot_on, slot_row}
 
@@ -39,6 +41,24 @@ module _ {A V : Type 0} {IsElement : A → Type 0} {zero one : A} {add sub mul :
 
   pub cleared-zero : (r q : Row A V) (p : ℕ) → IsRow IsElement IsValue n r → IsRow IsElement IsValue n q → entry zero r p ≡ zero → cleared zero add sub mul plus times r p q ≡ r
   cleared-zero r q p hr hq e = ap (λ (x : A). plus_row add mul plus times r (sub zero x) q) e ∙ plus_row-none r q hr hq
+
+  -- the coefficients cleared by a row that is one at column p and zero elsewhere
+  pub coeffs-cleared_lone : (r q : Row A V) (p : ℕ) → IsRow IsElement IsValue n r → IsRow IsElement IsValue n q → p < n → get_or q.coeffs p zero ≡ one → IsZeroBut zero p q.coeffs
+      → (cleared zero add sub mul plus times r p q).coeffs ≡ set r.coeffs p zero
+  coeffs-cleared_lone r q p hr hq l is zeros =
+      let x : A = sub zero (entry zero r p) in
+      let hx = negative_element laws ml (entry zero r p) (entry_element laws ml n r p hr l) in
+      let made = IsRow-plus_row laws ml n r q x hr hq hx in
+      let wm = made.width in
+      let wr = hr.width in
+      let ws = length-set r.coeffs p zero in
+      ext_get_or zero (plus_row add mul plus times r x q).coeffs (set r.coeffs p zero) (omega arith)
+      (λ j h. elim (cases_eq j p) [
+        | inl e ↦
+            (ap (entry zero (plus_row add mul plus times r x q)) e ∙ entry-cleared laws ml n r q p hr hq l is
+            ∙ sym (ap (λ (i : ℕ). get_or (set r.coeffs p zero) i zero) e ∙ get_or-set_same r.coeffs p zero zero (omega arith)))
+        | inr ne ↦ (entry-plus_zero laws ml n r q x j hr hq hx (omega arith) (zeros j ne) ∙ sym (get_or-set_other r.coeffs p j zero zero ne))
+      ])
 
   -- columns where the row that is left is zero
   pub reduce-zeros : (t : List (Option (Row A V))) (q m : Row A V) (k d : ℕ) → ((i : ℕ) (r : Row A V) → slot t i ≡ Some r → IsRow IsElement IsValue n r) → IsRow IsElement IsValue n m → m ≡ reduce zero add sub mul plus times t k q

@@ -12,7 +12,7 @@ use Rattle.sc_echelon.specs.Table.{slot, rows_of}
 use Rattle.sc_echelon.specs.Steps.{reduce, eliminate, clear_at, insert, led}
 use Rattle.sc_echelon.specs.Echelon.{zero_row, homogeneous, IsEchelon, HasKernelOf, IsEchelonStored, IsLastOff, IsLeadingEntry, coeffs_at, coeffs_of, counted, on_below}
 use Rattle.sc_echelon.proofs.KernelLaws.{one_more, filled_below, filled_all}
-use Rattle.sc_echelon.specs.Storage.{place, table_of, HasRows, IsZeroOutside}
+use Rattle.sc_echelon.specs.Storage.{place, table_of, HasOnes, HasRows, IsZeroOutside}
 use Rattle.sc_echelon.specs.Knowledge.{xor_bytes, act_bytes}
 use Rattle.sc_echelon.proofs.StorageLaws.{table_of-off, slot-table_of, length-table_of}
 use Rattle.sc_echelon.proofs.Settle.{cases_option, none_is_not_some, slot_within}
@@ -101,6 +101,11 @@ bare_rows {zero = zero} used rows stored i r e =
     let is : get_or rows i r ≡ r = place_is (get_or used i false) (get_or rows i r) r (sym (slot-table_of used rows i r count (omega arith)) ∙ e) in
     let bare : length r.right ≡ 0 = ap (λ (x : Row _ (List ℕ)). length x.right) (sym is) ∙ stored.rights i r (omega arith) in
     record { width = row.width; elements = row.elements; value = record { width = bare; entries = λ k d l. absurd (omega arith) } }
+
+pub bare_ones : {A : Type 0} {IsElement : A → Type 0} {zero one : A} (used : List Bool) (rows : List (Row A (List ℕ))) → IsEchelonStored IsElement zero one used rows → HasOnes zero one (table_of used rows)
+bare_ones {zero = zero} used rows stored i r e =
+    let t = table_of used rows in
+    stored.form.reduced.one_at i (zero_row zero r.coeffs) (slot_some zero (coeffs_of t) i r.coeffs (slot-coeffs_of t i ∙ ap coeffs_at e))
 
 -- ---- a row is taken in
 module _ {A : Type 0} {IsElement : A → Type 0} {zero one : A} {add sub mul : A → A → A} {inv : A → A} (laws : IsField IsElement zero one add sub mul inv) (act : A → ℕ → ℕ)

@@ -1,8 +1,8 @@
 -- Bytes that are zero but for some that lie together: what is done to these is done to all.
-use Rattle.std.proofs.Common.{◌≡◌, ℕ, ◌+◌, ◌-◌, ◌<◌, ◌≤◌, List, ◌++◌, length, get_or, map, take, drop, replicate, bit_xor, min, max, inl, inr, sym, ◌∙◌, ap, ap₂, subst, arith}
+use Rattle.std.proofs.Common.{◌≡◌, ℕ, ◌+◌, ◌-◌, ◌<◌, ◌≤◌, List, ◌++◌, length, get_or, set, map, take, drop, replicate, bit_xor, min, max, inl, inr, sym, ◌∙◌, ap, ap₂, subst, arith}
 use Rattle.std.specs.Int.Bits.{xor_zero_r}
-use Rattle.std.proofs.lemmas.List.{length-map, length-take-le, length-drop, length-replicate, length-append, get_or-map, get_or-take, get_or-drop, get_or-replicate, get_or_append_left, get_or-append_right, get_or_past, ext_get_or}
-use Rattle.std.proofs.lemmas.Bool.{cases_lt}
+use Rattle.std.proofs.lemmas.List.{length-map, length-set, get_or-set_same, get_or-set_other, length-take-le, length-drop, length-replicate, length-append, get_or-map, get_or-take, get_or-drop, get_or-replicate, get_or_append_left, get_or-append_right, get_or_past, ext_get_or}
+use Rattle.std.proofs.lemmas.Bool.{cases_eq, cases_lt}
 use borrow.Rule.Slice.PartMut.{put_mid}
 use Rattle.sc_field.specs.Scale.{scaled_sum}
 use Rattle.sc_matrix.proofs.VectorLaws.{length-add_vectors, get_or-add_vectors}
@@ -124,6 +124,22 @@ IsTouched-map f us from end none h =
     (λ j z. elim (cases_lt j (length us)) [
       | inl lt ↦ (get_or-map f us j 0 0 lt ∙ ap f z ∙ none)
       | inr past ↦ get_or_past (map f us) j 0 (omega arith)
+    ]) in
+    record { order = h.order; within = omega arith; before = λ j lt. zero j (h.before j lt); after = λ j ge. zero j (h.after j ge) }
+
+-- ---- a place is cleared
+pub IsTouched-clear : (us : List ℕ) (i from end : ℕ) → IsTouched from end us → IsTouched from end (set us i 0)
+IsTouched-clear us i from end h =
+    let w = h.within in
+    let l = length-set us i 0 in
+    let zero : (j : ℕ) → get_or us j 0 ≡ 0 → get_or (set us i 0) j 0 ≡ 0 =
+    (λ j z. elim (cases_lt j (length us)) [
+      | inl lt ↦
+          elim (cases_eq j i) [
+            | inl e ↦ (ap (λ (k : ℕ). get_or (set us i 0) k 0) e ∙ get_or-set_same us i 0 0 (omega arith))
+            | inr ne ↦ (get_or-set_other us i j 0 0 ne ∙ z)
+          ]
+      | inr past ↦ get_or_past (set us i 0) j 0 (omega arith)
     ]) in
     record { order = h.order; within = omega arith; before = λ j lt. zero j (h.before j lt); after = λ j ge. zero j (h.after j ge) }
 

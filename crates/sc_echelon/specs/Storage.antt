@@ -32,6 +32,10 @@ pub record MovedBelow {A V : Type 0} (zero : A) (count : ℕ) (used : List Bool)
 abbrev pub HasRows : {A : Type 0} → (A → Type 0) → ℕ → ℕ → List Bool → List (Row A (List ℕ)) → Type 0
 HasRows {A} IsElement n w used rows = (i : ℕ) (r : Row A (List ℕ)) → slot (table_of used rows) i ≡ Some r → IsRow IsElement (IsBytes w) n r
 
+-- each row of a table has a one at its own place
+abbrev pub HasOnes : {A V : Type 0} → A → A → List (Option (Row A V)) → Type 0
+HasOnes {A} {V} zero one t = (i : ℕ) (r : Row A V) → slot t i ≡ Some r → slice_index_or r.coeffs i zero ≡ one
+
 -- the rows of a table before the place `first`, and from the place `end` on, have a zero at column p
 pub record IsZeroOutside {A V : Type 0} (zero : A) (first end p : ℕ) (t : List (Option (Row A V))) : Type 0 where
   pub before : (i : ℕ) (r : Row A V) → slot t i ≡ Some r → i < first → slice_index_or r.coeffs p zero ≡ zero

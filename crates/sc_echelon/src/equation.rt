@@ -4,9 +4,9 @@ ghost use Rattle.sc_field.specs.Field.{IsNumber};
 ghost use Rattle.sc_field.specs.Scale.{scaled_sum};
 ghost use Rattle.sc_matrix.specs.Module.{IsByte};
 ghost use Rattle.sc_echelon.specs.Knowledge.{zero_bytes, xor_bytes, act_bytes};
-ghost use Rattle.sc_echelon.specs.Steps.{plus_row, times_row, shift_row};
+ghost use Rattle.sc_echelon.specs.Steps.{plus_row, times_row, shift_row, cleared};
 ghost use Rattle.sc_echelon.specs.Echelon.{IsLastNonzero};
-ghost use Rattle.sc_echelon.specs.Touched.{IsTouched};
+ghost use Rattle.sc_echelon.specs.Touched.{IsTouched, IsZeroBut};
 
 use crate::tables::Tables;
 use crate::window::Window;
@@ -188,18 +188,16 @@ impl<F: Field> Equation<F> {
         self.add_scaled(c, other, tables);
     }
 
-    // The same, whatever `c` is.
-    #[inline(always)]
+    // The same, whatever `c` is. It stands apart, so that the kernel is called at one place and can stand there.
+    #[inline(never)]
     fn add_scaled(&mut self, c: F, other: &Equation<F>, tables: &mut Tables<F>)
         requires coeffs { length self.old.coeffs ≡ length other.now.coeffs }
         requires right { length self.old.right ≡ length other.now.right }
         ensures { self.new ≡ plus_row F.add F.mul xor_bytes (act_bytes F.act) self.old c other.now }
     {
         c.known();
-        add_both(
-            c,
-            tables,
-            &mut self.numbers,
+        self.numbers.add_between(
+            tables.get(c),
             other.numbers.as_slice(),
             other.from,
             other.end,
@@ -208,6 +206,54 @@ impl<F: Field> Equation<F> {
         );
         self.from = self.from.min(other.from);
         self.end = self.end.max(other.end);
+    }
+
+    // Whether all coefficients but that of column `col` are known to be zero.
+    #[inline(always)]
+    pub(crate) fn is_lone(&self, col: usize) -> bool
+        requires { col < length self.now.coeffs }
+        ensures { result ≡ true → IsZeroBut F.zero col self.now.coeffs }
+    {
+        if self.from < col || self.end.saturating_sub(col) > 1 {
+            return false;
+        }
+        true
+    }
+
+    // Clears the coefficient of column `col` by an equation that has a one there and zeros elsewhere: it tells the bytes of that
+    // column alone.
+    #[inline(always)]
+    pub(crate) fn substitute(&mut self, col: usize, value: &Equation<F>, tables: &mut Tables<F>)
+        requires col { col < length self.old.coeffs }
+        requires coeffs { length self.old.coeffs ≡ length value.now.coeffs }
+        requires right { length self.old.right ≡ length value.now.right }
+        requires one { slice_index_or value.now.coeffs col F.zero ≡ F.one }
+        requires zeros { IsZeroBut F.zero col value.now.coeffs }
+        ensures { self.new ≡ cleared F.zero F.add F.sub F.mul xor_bytes (act_bytes F.act) self.old col value.now }
+    {
+        self.put_in(col, value, tables);
+        if self.end.saturating_sub(col) == 1 {
+            self.trim();
+        }
+    }
+
+    #[inline(always)]
+    fn put_in(&mut self, col: usize, value: &Equation<F>, tables: &mut Tables<F>)
+        requires col { col < length self.old.coeffs }
+        requires coeffs { length self.old.coeffs ≡ length value.now.coeffs }
+        requires right { length self.old.right ≡ length value.now.right }
+        requires one { slice_index_or value.now.coeffs col F.zero ≡ F.one }
+        requires zeros { IsZeroBut F.zero col value.now.coeffs }
+        ensures { self.new ≡ cleared F.zero F.add F.sub F.mul xor_bytes (act_bytes F.act) self.old col value.now }
+    {
+        self.known();
+        value.known();
+        let factor = F::zero().sub(self.coeff(col));
+        factor.known();
+        self.numbers.clear(col);
+        tables
+            .get(factor)
+            .scale_add(self.right.as_mut_slice(), value.right.as_slice());
     }
 
     // Looks anew for the columns between which the coefficients lie that aren't zero.
@@ -231,14 +277,7 @@ impl<F: Field> Equation<F> {
         if c == F::one() {
             return;
         }
-        match tables.find(c) {
-            Some(by) => self.multiply_by(by),
-            None => {
-                let by = Multiplier::new(c);
-                self.multiply_by(&by);
-                tables.keep(by);
-            }
-        }
+        self.multiply_by(tables.get(c));
     }
 
     // The same, by a multiplier.
@@ -381,53 +420,6 @@ fn zeros_behind(xs: &[u8], from: usize) -> usize
     end_of_others(xs, from, xs.len())
 }
 
-// Adds `c` times `one` to `first`, and `c` times `other` to `second`. `one` is zero but for the bytes from `from` up to `end`.
-#[inline(always)]
-fn add_both<F: Field>(
-    c: F,
-    tables: &mut Tables<F>,
-    first: &mut Window,
-    one: &[u8],
-    from: usize,
-    end: usize,
-    second: &mut [u8],
-    other: &[u8],
-)
-    requires first { length one.now ≡ length first.old }
-    requires second { length other.now ≡ length second.old }
-    requires touched { IsTouched from end one.now }
-    ensures first { first.new ≡ scaled_sum (F.act c) first.old one.now }
-    ensures second { second.new ≡ scaled_sum (F.act c) second.old other.now }
-{
-    match tables.find(c) {
-        Some(by) => add_by(by, first, one, from, end, second, other),
-        None => add_first(c, tables, first, one, from, end, second, other),
-    }
-}
-
-// The same, where no multiplier was kept: it is made, and kept. It stands apart, so that the way of most calls is short.
-#[inline(never)]
-fn add_first<F: Field>(
-    c: F,
-    tables: &mut Tables<F>,
-    first: &mut Window,
-    one: &[u8],
-    from: usize,
-    end: usize,
-    second: &mut [u8],
-    other: &[u8],
-)
-    requires first { length one.now ≡ length first.old }
-    requires second { length other.now ≡ length second.old }
-    requires touched { IsTouched from end one.now }
-    ensures first { first.new ≡ scaled_sum (F.act c) first.old one.now }
-    ensures second { second.new ≡ scaled_sum (F.act c) second.old other.now }
-{
-    let by = Multiplier::new(c);
-    add_by(&by, first, one, from, end, second, other);
-    tables.keep(by);
-}
-
 // Whether `c` is zero. Then adding it so many times changes neither of two pairs of bytes.
 #[inline(always)]
 fn adds_nothing<F: Field>(c: F, first: &[u8], one: &[u8], second: &[u8], other: &[u8]) -> bool
@@ -438,26 +430,6 @@ fn adds_nothing<F: Field>(c: F, first: &[u8], one: &[u8], second: &[u8], other: 
 {
     c.known();
     c == F::zero()
-}
-
-// The same, by a multiplier.
-#[inline(always)]
-fn add_by<F: Field>(
-    by: &Multiplier<F>,
-    first: &mut Window,
-    one: &[u8],
-    from: usize,
-    end: usize,
-    second: &mut [u8],
-    other: &[u8],
-)
-    requires first { length one.now ≡ length first.old }
-    requires second { length other.now ≡ length second.old }
-    requires touched { IsTouched from end one.now }
-    ensures first { first.new ≡ scaled_sum (F.act by.now.coefficient) first.old one.now }
-    ensures second { second.new ≡ scaled_sum (F.act by.now.coefficient) second.old other.now }
-{
-    first.add_between(by, one, from, end, second, other);
 }
 
 // The first place with a byte other than 0.

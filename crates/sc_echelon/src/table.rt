@@ -4,8 +4,8 @@
 ghost use Rattle.std.specs.Prelude.{◌≡◌, ◌≢◌, ◌+◌, ◌++◌, ◌↔◌, ◌<◌, ◌≤◌, ℕ, IfOk, All, true, false, length, map, drop, replicate, slice_index_or};
 ghost use Rattle.sc_echelon.specs.Equation.{IsRow};
 ghost use Rattle.sc_echelon.specs.Kept.{known_by, IsKept};
-ghost use Rattle.sc_echelon.specs.Storage.{table_of, ChangedBelow, HasRows, IsLoneUnless, IsStored, IsZeroOutside, MovedBelow};
-ghost use Rattle.sc_echelon.specs.Steps.{clear_at, insert, led, reduce};
+ghost use Rattle.sc_echelon.specs.Storage.{table_of, ChangedBelow, HasOnes, HasRows, IsLoneUnless, IsStored, IsZeroOutside, MovedBelow};
+ghost use Rattle.sc_echelon.specs.Steps.{clear_at, cleared, insert, led, reduce};
 ghost use Rattle.sc_echelon.specs.Knowledge.{IsBytes, zero_bytes, xor_bytes, act_bytes, Follows, Contradicts, Adds, Forgets};
 
 use crate::equation::Equation;
@@ -113,6 +113,23 @@ fn next_on(flags: &[bool], from: usize, end: usize) -> usize
     skip_to_on(flags, near, end)
 }
 
+// Clears the coefficient of a row at column `p` by a row that has a one there.
+#[inline(always)]
+fn clear_by<F: Field>(row: &mut Equation<F>, p: usize, by: &Equation<F>, tables: &mut Tables<F>)
+    requires p_in { p < length row.old.coeffs }
+    requires coeffs { length row.old.coeffs ≡ length by.now.coeffs }
+    requires right { length row.old.right ≡ length by.now.right }
+    requires one { slice_index_or by.now.coeffs p F.zero ≡ F.one }
+    ensures { row.new ≡ cleared F.zero F.add F.sub F.mul xor_bytes (act_bytes F.act) row.old p by.now }
+{
+    if by.is_lone(p) {
+        row.substitute(p, by, tables);
+    } else {
+        let factor = F::zero().sub(row.coeff(p));
+        row.add_multiple(factor, by, tables);
+    }
+}
+
 // Clears the row at each pivot of the table that `used` and `rows` store. It looks at the columns alone that the row touches.
 pub(crate) fn clear_at_pivots<F: Field>(
     work: &mut Equation<F>,
@@ -125,6 +142,7 @@ pub(crate) fn clear_at_pivots<F: Field>(
     requires widths { All (λ r. length r.coeffs ≡ length used.now) rows.now }
     requires rights { All (λ r. length r.right ≡ length work.old.right) rows.now }
     requires elements { HasRows F.IsElement (length used.now) (length work.old.right) used.now rows.now }
+    requires ones { HasOnes F.zero F.one (table_of used.now rows.now) }
     ensures value { work.new ≡ reduce F.zero F.add F.sub F.mul xor_bytes (act_bytes F.act) (table_of used.now rows.now) (length used.now) work.old }
     ensures width { length work.new.coeffs ≡ length work.old.coeffs }
     ensures right { length work.new.right ≡ length work.old.right }
@@ -133,8 +151,7 @@ pub(crate) fn clear_at_pivots<F: Field>(
     let mut k = work.from();
     while k < work.end() {
         if used[k] {
-            let factor = F::zero().sub(work.coeff(k));
-            work.add_multiple(factor, &rows[k], tables);
+            clear_by(work, k, &rows[k], tables);
         }
         k += 1;
     }
@@ -192,6 +209,7 @@ fn clear_column<F: Field>(
     requires p_in { p < length by.now.coeffs }
     requires widths { All (λ r. length r.coeffs ≡ length by.now.coeffs) rows.old }
     requires rights { All (λ r. length r.right ≡ length by.now.right) rows.old }
+    requires one { slice_index_or by.now.coeffs p F.zero ≡ F.one }
     requires order { first ≤ end }
     requires range { end ≤ length used.now }
     requires elements { HasRows F.IsElement (length by.now.coeffs) (length by.now.right) used.now rows.old }
@@ -203,9 +221,7 @@ fn clear_column<F: Field>(
     by.known();
     let mut k = next_on(used, first, end);
     while k < end {
-        let row = &mut rows[k];
-        let factor = F::zero().sub(row.coeff(p));
-        row.add_multiple(factor, by, tables);
+        clear_by(&mut rows[k], p, by, tables);
         k = next_on(used, k + 1, end);
     }
 }
@@ -240,6 +256,7 @@ pub(crate) fn insert_row<F: Field>(
     ensures work_width { length work.new.coeffs ≡ length work.old.coeffs }
     ensures work_right { length work.new.right ≡ length work.old.right }
 {
+    work.known();
     let lead = work.coeff(p);
     work.multiply(lead.inv(), tables);
     clear_column(rows, used, p, first, end, work, tables);

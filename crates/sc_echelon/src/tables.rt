@@ -1,14 +1,15 @@
 //! Multipliers that were made once and are used again.
-ghost use Rattle.std.specs.Prelude.{◌≡◌, ⊤, MatchOption};
+ghost use Rattle.std.specs.Prelude.{◌≡◌, ◌<◌, length, true};
 
 use sc_field::{Field, Multiplier};
 use sc_outside::NoMemory;
 use std::alloc::Global;
 
-// Multipliers that were kept, each at the number of its coefficient.
+// Multipliers that were made, each at the number of its coefficient.
 #[derive(Drop)]
 pub(crate) struct Tables<F: Field> {
     made: Vec<Multiplier<F>>,
+    ghost size: { length made.items ≡ 256 },
 }
 
 impl<F: Field> Tables<F> {
@@ -25,27 +26,45 @@ impl<F: Field> Tables<F> {
         Ok(tables)
     }
 
-    // The multiplier of `c`, if it was kept.
-    pub(crate) fn find(&self, c: F) -> Option<&Multiplier<F>>
-        ensures { MatchOption result ⊤ (λ by. by.now.coefficient ≡ c) }
+    // The multiplier of `c`. It is made, if it wasn't yet.
+    #[inline(always)]
+    pub(crate) fn get(&mut self, c: F) -> &Multiplier<F>
+        ensures { result.now.coefficient ≡ c }
     {
         c.known();
         let place = c.number() as usize;
-        if place >= self.made.len() {
-            return None;
-        }
-        let by = &self.made[place];
-        by.coefficient.known();
-        if by.coefficient == c { Some(by) } else { None }
+        get_at(self.made.as_mut_slice(), place, c)
     }
+}
 
-    // Keeps the multiplier for the next time.
-    pub(crate) fn keep(&mut self, by: Multiplier<F>) {
-        let place = by.coefficient.number() as usize;
-        if place < self.made.len() {
-            self.made[place] = by;
-        }
+// The multiplier of `c`, which stands at that place, if it was made.
+#[inline(always)]
+fn get_at<F: Field>(made: &mut [Multiplier<F>], place: usize, c: F) -> &Multiplier<F>
+    requires { place < length made.old }
+    ensures { result.now.coefficient ≡ c }
+{
+    if !is_of(&made[place], c) {
+        make(&mut made[place], c);
     }
+    let kept = &*made;
+    &kept[place]
+}
+// Whether it multiplies by `c`.
+#[inline(always)]
+fn is_of<F: Field>(by: &Multiplier<F>, c: F) -> bool
+    ensures { result ≡ true → by.now.coefficient ≡ c }
+{
+    c.known();
+    by.coefficient.known();
+    by.coefficient == c
+}
+
+// Makes it the multiplier of `c`. It stands apart, so that the way of most calls is short.
+#[inline(never)]
+fn make<F: Field>(by: &mut Multiplier<F>, c: F)
+    ensures { by.new.coefficient ≡ c }
+{
+    *by = Multiplier::new(c);
 }
 
 // Writes to each place the multiplier of the element of that number, if there is one.

@@ -1,5 +1,5 @@
 //! Bytes that are forgotten in front and come behind, and are seldom moved.
-ghost use Rattle.std.specs.Prelude.{◌≡◌, ◌+◌, ◌-◌, ◌++◌, ◌<◌, ◌≤◌, ℕ, IfOk, All, length, map, take, drop, replicate};
+ghost use Rattle.std.specs.Prelude.{◌≡◌, ◌+◌, ◌-◌, ◌++◌, ◌<◌, ◌≤◌, ℕ, IfOk, All, length, map, take, drop, replicate, slice_set};
 ghost use borrow.Rule.Slice.PartMut.{put_mid};
 ghost use Rattle.sc_field.specs.Scale.{scaled_sum};
 ghost use Rattle.sc_echelon.specs.Touched.{IsTouched};
@@ -65,6 +65,16 @@ impl Window {
         ensures { self.new ≡ put_mid at (length src.now) self.old src.now }
     {
         write_at(self.bytes.as_mut_slice(), self.from + at, src);
+    }
+
+    // Writes a zero at a place.
+    #[inline(always)]
+    pub(crate) fn clear(&mut self, at: usize)
+        requires { at < length self.old }
+        ensures { self.new ≡ slice_set self.old at 0 }
+    {
+        let place = self.from + at;
+        self.bytes[place] = 0;
     }
 
     /// Forgets the first bytes, and has as many zeros behind.
@@ -189,7 +199,11 @@ fn add_part<F: Field>(
     ensures right { right.new ≡ scaled_sum (F.act by.now.coefficient) right.old other.now }
 {
     let end = at + src.len();
-    by.scale_add_both(&mut bytes[at..end], src, right, other);
+    if right.is_empty() {
+        by.scale_add(&mut bytes[at..end], src);
+    } else {
+        by.scale_add_both(&mut bytes[at..end], src, right, other);
+    }
 }
 
 // Multiplies some bytes at a place.

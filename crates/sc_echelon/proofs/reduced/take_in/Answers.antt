@@ -1,6 +1,6 @@
 use Rattle.std.proofs.Common.{length, refl, sym, ◌∙◌}
 use Rattle.sc_echelon.proofs.Skipped.{HasRows-same}
-use Rattle.sc_echelon.proofs.StoredReduced.{bare_rows, others_left, nothing_left, form_left, kernel_left}
+use Rattle.sc_echelon.proofs.StoredReduced.{bare_rows, bare_ones, others_left, nothing_left, form_left, kernel_left}
 use Rattle.sc_echelon.proofs.reduced.take_in.Goals as goal
 
 pub returns-in-Some-clause-stored : goal.returns-in-Some-clause-stored
@@ -34,3 +34,6 @@ insert_row-requires-clause-elements g c =
 pub insert_row-requires-clause-others : goal.insert_row-requires-clause-others
 insert_row-requires-clause-others g c =
     others_left g.met.F.Field.field g.F.Field.act c.args.used.now c.args.rows.now c.requires.stored c.args.work.now c.clear_at_pivots.new.work c.requires.width c.requires.elements c.clear_at_pivots.ensures.value c.in-Some.p c.in-Some.ensures.1
+
+pub clear_at_pivots-requires-clause-ones : goal.clear_at_pivots-requires-clause-ones
+clear_at_pivots-requires-clause-ones g c = bare_ones c.args.used.now c.args.rows.now c.requires.stored

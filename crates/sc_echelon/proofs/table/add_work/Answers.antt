@@ -103,3 +103,6 @@ first_touched-low-requires-clause-others g c =
     found_others g.met.F.Field.field g.met.F.Field.action (length c.args.used.now) c.args.width (table_of c.args.used.now c.args.rows.now) c.requires.stored.kept c.args.work.now
     c.clear_at_pivots.new.work (left_reduced g.met.F.Field.field g.met.F.Field.action (length c.args.used.now) c.args.width (table_of c.args.used.now c.args.rows.now) c.requires.stored.kept c.args.work.now c.clear_at_pivots.new.work c.requires.row c.clear_at_pivots.ensures.value) c.clear_at_pivots.new.work.coeffs refl c.in-Some.p c.in-Some.ensures.0 c.in-Some.ensures.1
     c.args.reach.now c.saturating_sub.result c.saturating_sub.ensures c.requires.stored.near
+
+pub clear_at_pivots-requires-clause-ones : goal.clear_at_pivots-requires-clause-ones
+clear_at_pivots-requires-clause-ones g c = c.requires.stored.kept.reduced.one_at

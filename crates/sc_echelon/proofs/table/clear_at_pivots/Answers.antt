@@ -1,4 +1,4 @@
-use Rattle.std.proofs.Common.{◌≡◌, ◌+◌, ◌-◌, bit_xor, length, get_or, refl, sym, ◌∙◌, ap, ap₂, arith}
+use Rattle.std.proofs.Common.{◌≡◌, ◌+◌, ◌-◌, bit_xor, length, get_or, refl, sym, ◌∙◌, ap, arith}
 use Rattle.sc_echelon.specs.Steps.{reduce}
 use Rattle.sc_echelon.specs.Storage.{table_of}
 use Rattle.sc_echelon.specs.Knowledge.{xor_bytes, act_bytes}
@@ -8,13 +8,17 @@ use Rattle.sc_echelon.proofs.StoredSteps.{slot_on, slot_off, reduce_on, reduce_o
 use Rattle.sc_echelon.proofs.table.clear_at_pivots.Goals as goal
 use Rattle.sc_echelon.proofs.table.clear_at_pivots.Goals.{then-used-k, else-used-k}
 
-pub add_multiple-requires-clause-coeffs : goal.add_multiple-requires-clause-coeffs
-add_multiple-requires-clause-coeffs g c =
+pub clear_by-requires-clause-coeffs : goal.clear_by-requires-clause-coeffs
+clear_by-requires-clause-coeffs g c =
     c.loop-k.invariant.width ∙ c.requires.width ∙ sym (width_at (λ r. length r.coeffs) (length c.args.used.now) c.args.rows.now c.loop-k.k c.index-rows-k.result (omega arith) c.index-rows-k.is c.requires.widths)
 
-pub add_multiple-requires-clause-right : goal.add_multiple-requires-clause-right
-add_multiple-requires-clause-right g c =
+pub clear_by-requires-clause-right : goal.clear_by-requires-clause-right
+clear_by-requires-clause-right g c =
     c.loop-k.invariant.right ∙ sym (width_at (λ r. length r.right) (length c.args.work.now.right) c.args.rows.now c.loop-k.k c.index-rows-k.result (omega arith) c.index-rows-k.is c.requires.rights)
+
+pub clear_by-requires-clause-one : goal.clear_by-requires-clause-one
+clear_by-requires-clause-one g c =
+    c.requires.ones c.loop-k.k c.index-rows-k.result (slot_on c.args.used.now c.args.rows.now c.requires.count c.loop-k.k c.index-rows-k.result (omega arith) c.if-used-k.true c.index-rows-k.is)
 
 pub loop-k-preserved : goal.loop-k-preserved
 loop-k-preserved g c =
@@ -30,13 +34,12 @@ loop-k-preserved g c =
     elim c.if-used-k.branch [
       | then-used-k w ↦
           (let r = w.index-rows-k.result in
-          let x = w.sub-factor.result in
-          let factor : x ≡ sub zero (get_or c.loop-k.work.coeffs k zero) = w.sub-factor.ensures.value ∙ ap₂ sub w.zero.ensures.value w.coeff.ensures.value in
-          let made = w.work-is ∙ w.add_multiple.ensures in
+          let x = sub zero (get_or c.loop-k.work.coeffs k zero) in
+          let made = w.work-is ∙ w.clear_by.ensures in
           let a = c.loop-k.invariant.width ∙ c.requires.width ∙ sym (width_at (λ s. length s.coeffs) (length used) rows k r (omega arith) w.index-rows-k.is c.requires.widths) in
           let b = c.loop-k.invariant.right ∙ sym (width_at (λ s. length s.right) (length c.args.work.now.right) rows k r (omega arith) w.index-rows-k.is c.requires.rights) in
           record {
-            value = reduce_on zero add sub mul xor_bytes act t c.args.work.now c.loop-k.work r c.if-used-k.work k x (slot_on used rows c.requires.count k r (omega arith) w.if-used-k.true w.index-rows-k.is) c.loop-k.invariant.value factor made;
+            value = reduce_on zero add sub mul xor_bytes act t c.args.work.now c.loop-k.work r c.if-used-k.work k x (slot_on used rows c.requires.count k r (omega arith) w.if-used-k.true w.index-rows-k.is) c.loop-k.invariant.value refl made;
             width = ap (λ s. length s.coeffs) made ∙ plus_width add mul xor_bytes act c.loop-k.work x r a ∙ c.loop-k.invariant.width;
             right = ap (λ s. length s.right) made ∙ plus_right add mul bit_xor g.F.Field.act c.loop-k.work x r b ∙ c.loop-k.invariant.right;
             within = omega arith;

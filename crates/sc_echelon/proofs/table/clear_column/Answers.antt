@@ -1,9 +1,9 @@
-use Rattle.std.proofs.Common.{◌≡◌, ◌+◌, ◌<◌, length, refl, get_or, set, subst, sym, ◌∙◌, ap, ap₂, arith}
+use Rattle.std.proofs.Common.{◌≡◌, ◌+◌, ◌<◌, length, refl, get_or, set, subst, sym, ◌∙◌, ap, arith}
 use Rattle.std.proofs.lemmas.List.{length-map}
 use Rattle.std.proofs.lemmas.List.Elements.{All-set}
 use Rattle.sc_matrix.specs.Vector.{scale_vector}
 use Rattle.sc_matrix.proofs.VectorLaws.{length-add_vectors, length-scale_vector}
-use Rattle.sc_echelon.specs.Steps.{plus_row, clear_at}
+use Rattle.sc_echelon.specs.Steps.{plus_row, cleared, clear_at}
 use Rattle.sc_echelon.specs.Storage.{ChangedBelow}
 use Rattle.sc_echelon.specs.Knowledge.{xor_bytes, act_bytes}
 use Rattle.sc_echelon.proofs.Bytes.{bytes_module}
@@ -28,12 +28,10 @@ loop-k-preserved g c =
     let is : r ≡ get_or rows k r = c.index-rows-k.is in
     let width : length r.coeffs ≡ length by.coeffs = ap (λ s. length s.coeffs) is ∙ h.widths k r within in
     let size : length r.right ≡ length by.right = ap (λ s. length s.right) is ∙ h.rights k r within in
-    let factor : c.sub-factor.result ≡ g.F.Field.sub g.F.Field.zero (get_or r.coeffs c.args.p g.F.Field.zero) =
-    c.sub-factor.ensures.value ∙ ap₂ g.F.Field.sub c.zero.ensures.value (c.coeff.ensures.value ∙ ap (λ s. get_or s.coeffs c.args.p g.F.Field.zero) (sym is)) in
-    let x = c.sub-factor.result in
+    let x = g.F.Field.sub g.F.Field.zero (get_or r.coeffs c.args.p g.F.Field.zero) in
     let act = act_bytes g.F.Field.act in
-    let new = c.add_multiple.new.self in
-    let made : new ≡ plus_row add mul xor_bytes act r x by = c.add_multiple.ensures ∙ ap (λ s. plus_row add mul xor_bytes act s x by) (sym is) in
+    let new = c.clear_by.new.row in
+    let made : new ≡ plus_row add mul xor_bytes act r x by = c.clear_by.ensures ∙ ap (λ s. cleared g.F.Field.zero add g.F.Field.sub mul xor_bytes act s c.args.p by) (sym is) in
     let new_width : length new.coeffs ≡ length by.coeffs =
     ap (λ s. length s.coeffs) made ∙ length-add_vectors add r.coeffs (scale_vector mul x by.coeffs) (width ∙ sym (length-scale_vector mul x by.coeffs)) ∙ width in
     let new_size : length new.right ≡ length by.right =
@@ -44,7 +42,7 @@ loop-k-preserved g c =
       on = next.on;
       changed =
           cleared_skip g.F.Field.zero add g.F.Field.sub mul xor_bytes act c.args.p by c.args.used.now c.args.rows.now (k + 1) c.next_on-k-in-loop-k.result (set rows k new) next.order next.off
-          (cleared_on g.F.Field.zero add g.F.Field.sub mul xor_bytes act c.args.p by c.args.used.now c.args.rows.now k rows r new x (omega arith) (h.on before) is factor made h.changed);
+          (cleared_on g.F.Field.zero add g.F.Field.sub mul xor_bytes act c.args.p by c.args.used.now c.args.rows.now k rows r new x (omega arith) (h.on before) is refl made h.changed);
       widths = All-set (λ s. length s.coeffs ≡ length by.coeffs) rows k new new_width h.widths;
       rights = All-set (λ s. length s.right ≡ length by.right) rows k new new_size h.rights;
     }

@@ -1,10 +1,14 @@
-use Rattle.std.proofs.Common.{◌≡◌, true, length, set, ◌∙◌, ap, arith}
+use Rattle.std.proofs.Common.{◌≡◌, true, length, get_or, set, refl, ◌∙◌, ap, arith}
 use Rattle.std.proofs.lemmas.List.{length-map}
 use Rattle.std.proofs.lemmas.List.Elements.{All-set}
+use Rattle.sc_field.specs.FieldLemmas.{inv_mul}
 use Rattle.sc_matrix.proofs.VectorLaws.{length-scale_vector}
 use Rattle.sc_echelon.specs.Steps.{times_row, insert, led}
 use Rattle.sc_echelon.specs.Storage.{table_of}
-use Rattle.sc_echelon.specs.Knowledge.{xor_bytes, act_bytes}
+use Rattle.sc_echelon.specs.Equation.{IsRow}
+use Rattle.sc_echelon.specs.Knowledge.{IsBytes, xor_bytes, act_bytes}
+use Rattle.sc_echelon.proofs.Bytes.{bytes_module}
+use Rattle.sc_echelon.proofs.RowOperations.{entry-times_row}
 use Rattle.sc_echelon.proofs.Skipped.{HasRows-same}
 use Rattle.sc_echelon.proofs.StorageLaws.{table_of-insert}
 use Rattle.sc_echelon.proofs.table.insert_row.Goals as goal
@@ -45,3 +49,20 @@ clear_column-requires-clause-elements g c =
     HasRows-same c.args.used.now c.args.rows.now (length c.multiply.new.self.coeffs) (length c.multiply.new.self.right)
     (ap (λ r. length r.coeffs) c.multiply.ensures ∙ length-scale_vector g.F.Field.mul c.inv.result work.coeffs)
     (ap (λ r. length r.right) c.multiply.ensures ∙ length-map work.right (g.F.Field.act c.inv.result)) c.requires.elements
+
+-- the row is led by a one
+pub clear_column-requires-clause-one : goal.clear_column-requires-clause-one
+clear_column-requires-clause-one g c =
+    let F = g.F.Field in
+    let work = c.args.work.now in
+    let p = c.args.p in
+    let x = c.inv.result in
+    let h : IsRow F.IsElement (IsBytes (length work.right)) (length work.coeffs) work =
+    record { width = refl; elements = c.known.ensures.elements; value = record { width = refl; entries = c.known.ensures.bytes } } in
+    let inverse : x ≡ F.inv (get_or work.coeffs p F.zero) = c.inv.ensures.value ∙ ap F.inv c.coeff-lead.ensures.value in
+    let size = c.requires.width in
+    let inside = c.requires.p_in in
+    ap (λ r. get_or r.coeffs p F.zero) c.multiply.ensures
+    ∙ entry-times_row g.met.F.Field.field (bytes_module g.met.F.Field.action (length work.right)) (length work.coeffs) work x p h (omega arith)
+    ∙ ap (λ y. F.mul y (get_or work.coeffs p F.zero)) inverse
+    ∙ inv_mul g.met.F.Field.field (get_or work.coeffs p F.zero) (c.known.ensures.elements p F.zero (omega arith)) c.requires.lead

@@ -24,7 +24,7 @@ invariant_of-self g c =
     let from = c.min-self-inside.ensures in
     let end = c.max-self-inside.ensures in
     IsTouchedRow-same Number c.min-self-inside.result c.max-self-inside.result _ (scaled_sum (g.F.Field.act x) us vs)
-    (c.add_both.ensures.first ∙ ap (λ z. scaled_sum (g.F.Field.act x) us z) c.as_slice.ensures)
+    (c.add_between.ensures.value ∙ ap₂ (λ y z. scaled_sum (g.F.Field.act y) us z) c.get.ensures c.as_slice.ensures)
     (record {
       all = numbers_added g.met.F.Field.field g.met.F.Field.action g.met.F.Field.numbered g.met.F.Field.by_number us vs x c.known.ensures same c.self.invariant.all c.other.invariant.all;
       touched =
@@ -49,9 +49,10 @@ returns g c =
     let other_right : c.as_slice-2.result.now ≡ c.args.other.now.right = c.as_slice-2.ensures.value ∙ ap (λ r. r.right) c.other.view_is in
     let same_right : length c.as_slice-2.result.now ≡ length c.as_mut_slice.result.now = ap length other_right ∙ sym c.requires.right ∙ sym (ap length my_right) in
     same_row _ _ _ _
-    (ap (map element) (c.add_both.ensures.first ∙ ap (λ z. scaled_sum (act k) us z) c.as_slice.ensures)
+    (ap (map element) (c.add_between.ensures.value ∙ ap₂ (λ y z. scaled_sum (act y) us z) c.get.ensures c.as_slice.ensures)
     ∙ elements_added g.met.F.Field.field g.met.F.Field.action g.met.F.Field.numbered g.met.F.Field.by_number us vs k c.known.ensures same c.self.invariant.all c.other.invariant.all
     ∙ ap₂ (λ x y. add_vectors add x (scale_vector mul k y)) (ap (λ r. r.coeffs) c.self.view_is) (ap (λ r. r.coeffs) c.other.view_is))
-    (with_items_is c.self.inside.right c.add_both.new.second (c.add_both.auto.second ∙ c.as_mut_slice.ensures.len) ∙ c.add_both.ensures.second
+    (with_items_is c.self.inside.right c.add_between.new.right (c.add_between.auto.right ∙ c.as_mut_slice.ensures.len) ∙ c.add_between.ensures.right
+    ∙ ap (λ y. scaled_sum (act y) c.as_mut_slice.result.now c.as_slice-2.result.now) c.get.ensures
     ∙ scaled_sum_is (act k) c.as_mut_slice.result.now c.as_slice-2.result.now same_right
     ∙ ap₂ (λ x y. xor_bytes x (act_bytes act k y)) my_right other_right)
