@@ -196,6 +196,8 @@ impl<F: Field> Equation<F> {
         ensures { self.new ≡ plus_row F.add F.mul xor_bytes (act_bytes F.act) self.old c other.now }
     {
         c.known();
+        self.from = self.from.min(other.from);
+        self.end = self.end.max(other.end);
         self.numbers.add_between(
             tables.get(c),
             other.numbers.as_slice(),
@@ -204,8 +206,6 @@ impl<F: Field> Equation<F> {
             self.right.as_mut_slice(),
             other.right.as_slice(),
         );
-        self.from = self.from.min(other.from);
-        self.end = self.end.max(other.end);
     }
 
     // Whether all coefficients but that of column `col` are known to be zero.

@@ -51,6 +51,12 @@ fn add_unscaled<F: Field>(dst: &mut [u8], c: F, src: &[u8]) -> bool
     false
 }
 
+// Whether `c` is zero or one.
+#[inline(always)]
+fn is_unscaled<F: Field>(c: F) -> bool {
+    c == F::zero() || c == F::one()
+}
+
 fn add_by_bytes<F: Field>(dst: &mut [u8], c: F, src: &[u8])
     requires { length src.now ≡ length dst.old }
     ensures { dst.new ≡ scaled_sum (F.act c) dst.old src.now }
@@ -83,11 +89,23 @@ impl<F: Field> Multiplier<F> {
         ensures first { first.new ≡ scaled_sum (F.act self.now.coefficient) first.old one.now }
         ensures second { second.new ≡ scaled_sum (F.act self.now.coefficient) second.old other.now }
     {
-        if add_unscaled(first, self.coefficient, one) {
-            self.scale_add(second, other);
+        if is_unscaled(self.coefficient) {
+            self.add_each(first, one, second, other);
         } else {
             self.add_scaled_both(first, one, second, other);
         }
+    }
+
+    // The same, one after the other. It stands apart, so that the way of most coefficients is short.
+    #[inline(never)]
+    fn add_each(&self, first: &mut [u8], one: &[u8], second: &mut [u8], other: &[u8])
+        requires first { length one.now ≡ length first.old }
+        requires second { length other.now ≡ length second.old }
+        ensures first { first.new ≡ scaled_sum (F.act self.now.coefficient) first.old one.now }
+        ensures second { second.new ≡ scaled_sum (F.act self.now.coefficient) second.old other.now }
+    {
+        self.scale_add(first, one);
+        self.scale_add(second, other);
     }
 
     #[inline(always)]
