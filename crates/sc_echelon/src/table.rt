@@ -6,6 +6,7 @@ ghost use Rattle.sc_echelon.specs.Equation.{IsRow};
 ghost use Rattle.sc_echelon.specs.Kept.{known_by, IsKept};
 ghost use Rattle.sc_echelon.specs.Storage.{table_of, ChangedBelow, HasOnes, HasRows, IsLoneUnless, IsStored, IsZeroOutside, MovedBelow};
 ghost use Rattle.sc_echelon.specs.Steps.{clear_at, cleared, insert, led, reduce};
+ghost use Rattle.sc_echelon.specs.Touched.{IsZeroBut};
 ghost use Rattle.sc_echelon.specs.Knowledge.{IsBytes, zero_bytes, xor_bytes, act_bytes, Follows, Contradicts, Adds, Forgets};
 
 use crate::equation::Equation;
@@ -113,16 +114,23 @@ fn next_on(flags: &[bool], from: usize, end: usize) -> usize
     skip_to_on(flags, near, end)
 }
 
-// Clears the coefficient of a row at column `p` by a row that has a one there.
+// Clears the coefficient of a row at column `p` by a row that has a one there, and nothing else where it is `lone`.
 #[inline(always)]
-fn clear_by<F: Field>(row: &mut Equation<F>, p: usize, by: &Equation<F>, tables: &mut Tables<F>)
+fn clear_by<F: Field>(
+    row: &mut Equation<F>,
+    p: usize,
+    by: &Equation<F>,
+    lone: bool,
+    tables: &mut Tables<F>,
+)
     requires p_in { p < length row.old.coeffs }
     requires coeffs { length row.old.coeffs ≡ length by.now.coeffs }
     requires right { length row.old.right ≡ length by.now.right }
     requires one { slice_index_or by.now.coeffs p F.zero ≡ F.one }
+    requires lone { lone ≡ true → IsZeroBut F.zero p by.now.coeffs }
     ensures { row.new ≡ cleared F.zero F.add F.sub F.mul xor_bytes (act_bytes F.act) row.old p by.now }
 {
-    if by.is_lone(p) {
+    if lone {
         row.substitute(p, by, tables);
     } else {
         let factor = F::zero().sub(row.coeff(p));
@@ -151,7 +159,8 @@ pub(crate) fn clear_at_pivots<F: Field>(
     let mut k = work.from();
     while k < work.end() {
         if used[k] {
-            clear_by(work, k, &rows[k], tables);
+            let row = &rows[k];
+            clear_by(work, k, row, row.is_lone(k), tables);
         }
         k += 1;
     }
@@ -219,9 +228,10 @@ fn clear_column<F: Field>(
     ensures rights { All (λ r. length r.right ≡ length by.now.right) rows.new }
 {
     by.known();
+    let lone = by.is_lone(p);
     let mut k = next_on(used, first, end);
     while k < end {
-        clear_by(&mut rows[k], p, by, tables);
+        clear_by(&mut rows[k], p, by, lone, tables);
         k = next_on(used, k + 1, end);
     }
 }
