@@ -121,7 +121,7 @@ impl Window {
         ensures right { right.new ≡ scaled_sum (F.act by.now.coefficient) right.old other.now }
     {
         by.coefficient.known();
-        let first = whole_from(from, end, src.len());
+        let first = whole_from(from, src.len());
         let last = whole_end(first, end, src.len());
         add_part(
             by,
@@ -155,16 +155,10 @@ fn write_at(bytes: &mut [u8], at: usize, src: &[u8])
 // Where to begin, so that there are 16 places of `count` from there on, if there are so many: a whole vector is added faster
 // than a part of it.
 #[inline(always)]
-fn whole_from(from: usize, end: usize, count: usize) -> usize
-    requires order { from ≤ end }
-    requires within { end ≤ count }
+fn whole_from(from: usize, count: usize) -> usize
     ensures { result ≤ from }
 {
-    if end - from < 16 && count - from < 16 {
-        count.saturating_sub(16)
-    } else {
-        from
-    }
+    from.min(count.saturating_sub(16))
 }
 
 // Where to end, so that the places from `from` on are 16 at least, if there are so many.
@@ -175,11 +169,7 @@ fn whole_end(from: usize, end: usize, count: usize) -> usize
     ensures order { end ≤ result }
     ensures within { result ≤ count }
 {
-    if end - from < 16 && count - from >= 16 {
-        from + 16
-    } else {
-        end
-    }
+    end.max(from + (count - from).min(16))
 }
 
 // Adds a multiple of some bytes to as many at a place, and as many times some other bytes to a right side.
