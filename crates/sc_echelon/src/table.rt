@@ -96,7 +96,7 @@ fn skip_to_on(flags: &[bool], from: usize, end: usize) -> usize
     step_to_on(flags, first, end)
 }
 
-// The same. The next 16 flags are looked at one by one, since mostly one of them is on.
+// The same. The next flag is looked at first, and then the next 16 one by one, since mostly one of them is on.
 #[inline(always)]
 fn next_on(flags: &[bool], from: usize, end: usize) -> usize
     requires order { from ≤ end }
@@ -106,6 +106,9 @@ fn next_on(flags: &[bool], from: usize, end: usize) -> usize
     ensures off { (j : ℕ) → from ≤ j → j < result → slice_index_or flags.now j false ≡ false }
     ensures on { result < end → slice_index_or flags.now result false ≡ true }
 {
+    if from < end && flags[from] {
+        return from;
+    }
     let near = if end - from < 16 { end } else { from + 16 };
     let found = step_to_on(flags, from, near);
     if found < near {
