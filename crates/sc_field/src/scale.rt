@@ -1,5 +1,5 @@
 //! Products of a field's element with many bytes at once.
-ghost use Rattle.std.specs.Prelude.{◌≡◌, ◌+◌, ◌<◌, ◌≤◌, map, length, if◌then◌else◌};
+ghost use Rattle.std.specs.Prelude.{◌≡◌, ℕ, ◌+◌, ◌<◌, ◌≤◌, map, length, slice_index, if◌then◌else◌};
 ghost use Rattle.sc_field.specs.Scale.{scaled_sum};
 
 use crate::field::Field;
@@ -50,6 +50,30 @@ fn add_unscaled<F: Field>(dst: &mut [u8], c: F, src: &[u8]) -> bool
     }
     false
 }
+
+// The same, where the product is written and what `dst` held is lost.
+#[inline(always)]
+fn set_unscaled<F: Field>(dst: &mut [u8], c: F, src: &[u8]) -> bool
+    requires { length src.now ≡ length dst.old }
+    ensures { dst.new ≡ (if result then map (F.act c) src.now else dst.old) }
+{
+    c.known();
+    if c == F::zero() {
+        dst.fill(0);
+        return true;
+    }
+    if c == F::one() {
+        dst.copy_from_slice(src);
+        return true;
+    }
+    false
+}
+
+// Does nothing. Its contract tells a proof that what a slice holds are bytes.
+#[inline(always)]
+fn are_bytes(s: &[u8])
+    ensures { (k : ℕ) → slice_index s.now k < 256 }
+{}
 
 fn add_by_bytes<F: Field>(dst: &mut [u8], c: F, src: &[u8])
     requires { length src.now ≡ length dst.old }
@@ -120,7 +144,19 @@ impl<F: Field> Multiplier<F> {
     }
 
     /// Writes the coefficient times `src` to `dst`: each `dst[x]` becomes `act(coefficient, src[x])`.
+    ///
+    /// For the coefficient 0 it writes zeros and reads nothing, and for 1 it copies `src`.
     pub fn set(&self, dst: &mut [u8], src: &[u8])
+        requires { length src.now ≡ length dst.old }
+        ensures { dst.new ≡ map (F.act self.now.coefficient) src.now }
+    {
+        if !set_unscaled(dst, self.coefficient, src) {
+            self.set_scaled(dst, src);
+        }
+    }
+
+    #[inline(always)]
+    fn set_scaled(&self, dst: &mut [u8], src: &[u8])
         requires { length src.now ≡ length dst.old }
         ensures { dst.new ≡ map (F.act self.now.coefficient) src.now }
     {
@@ -133,7 +169,21 @@ impl<F: Field> Multiplier<F> {
     }
 
     /// Multiplies all of `dst` by the coefficient, in place.
+    ///
+    /// For the coefficient 0 it writes zeros and reads nothing, and for 1 it leaves `dst` as it is.
     pub fn scale(&self, dst: &mut [u8])
+        ensures { dst.new ≡ map (F.act self.now.coefficient) dst.old }
+    {
+        self.coefficient.known();
+        if self.coefficient == F::zero() {
+            are_bytes(dst);
+            dst.fill(0);
+        } else if self.coefficient != F::one() {
+            self.scale_by_tables(dst);
+        }
+    }
+
+    fn scale_by_tables(&self, dst: &mut [u8])
         ensures { dst.new ≡ map (F.act self.now.coefficient) dst.old }
     {
         if dst.len() >= 32 {

@@ -1,7 +1,7 @@
 use Rattle.std.proofs.Common.{refl, ◌∙◌}
 use Rattle.sc_field.specs.declared.terms.Term.{Term}
 use Rattle.sc_field.proofs.Sums.{one_over_zeros}
-use Rattle.sc_field.proofs.multiplier.Multiplier.set.Goals as goal
+use Rattle.sc_field.proofs.multiplier.Multiplier.set_scaled.Goals as goal
 
 pub returns : goal.returns
 returns g c =
