@@ -1,5 +1,5 @@
 //! Products of a field's element with many bytes at once.
-ghost use Rattle.std.specs.Prelude.{◌≡◌, ℕ, ◌+◌, ◌<◌, ◌≤◌, map, length, slice_index, if◌then◌else◌};
+ghost use Rattle.std.specs.Prelude.{◌≡◌, ℕ, ◌+◌, ◌<◌, ◌≤◌, map, length, replicate, slice_index, if◌then◌else◌};
 ghost use Rattle.sc_field.specs.Scale.{scaled_sum};
 
 use crate::field::Field;
@@ -19,7 +19,8 @@ pub fn add_bytes(dst: &mut [u8], src: &[u8])
 
 /// Adds `c` times `src` to `dst`: each `dst[x]` becomes `dst[x]` xor `act(c, src[x])`.
 ///
-/// For many slices with one coefficient, make a [`Multiplier`] once.
+/// For many slices with one coefficient, make a [`Multiplier`] once. For the coefficient 0 nothing is read, and for 1 nothing is
+/// looked up.
 pub fn scale_add<F: Field>(dst: &mut [u8], c: F, src: &[u8])
     requires { length src.now ≡ length dst.old }
     ensures { dst.new ≡ scaled_sum (F.act c) dst.old src.now }
@@ -51,22 +52,20 @@ fn add_unscaled<F: Field>(dst: &mut [u8], c: F, src: &[u8]) -> bool
     false
 }
 
-// The same, where the product is written and what `dst` held is lost.
-#[inline(always)]
-fn set_unscaled<F: Field>(dst: &mut [u8], c: F, src: &[u8]) -> bool
-    requires { length src.now ≡ length dst.old }
-    ensures { dst.new ≡ (if result then map (F.act c) src.now else dst.old) }
+// Apart from its callers, as `copy` is, so that these stay short.
+#[inline(never)]
+fn clear(dst: &mut [u8])
+    ensures { dst.new ≡ replicate (length dst.old) 0 }
 {
-    c.known();
-    if c == F::zero() {
-        dst.fill(0);
-        return true;
-    }
-    if c == F::one() {
-        dst.copy_from_slice(src);
-        return true;
-    }
-    false
+    dst.fill(0);
+}
+
+#[inline(never)]
+fn copy(dst: &mut [u8], src: &[u8])
+    requires { length src.now ≡ length dst.old }
+    ensures { dst.new ≡ src.now }
+{
+    dst.copy_from_slice(src);
 }
 
 // Does nothing. Its contract tells a proof that what a slice holds are bytes.
@@ -150,7 +149,12 @@ impl<F: Field> Multiplier<F> {
         requires { length src.now ≡ length dst.old }
         ensures { dst.new ≡ map (F.act self.now.coefficient) src.now }
     {
-        if !set_unscaled(dst, self.coefficient, src) {
+        self.coefficient.known();
+        if self.coefficient == F::zero() {
+            clear(dst);
+        } else if self.coefficient == F::one() {
+            copy(dst, src);
+        } else {
             self.set_scaled(dst, src);
         }
     }
@@ -177,12 +181,13 @@ impl<F: Field> Multiplier<F> {
         self.coefficient.known();
         if self.coefficient == F::zero() {
             are_bytes(dst);
-            dst.fill(0);
+            clear(dst);
         } else if self.coefficient != F::one() {
             self.scale_by_tables(dst);
         }
     }
 
+    #[inline(always)]
     fn scale_by_tables(&self, dst: &mut [u8])
         ensures { dst.new ≡ map (F.act self.now.coefficient) dst.old }
     {

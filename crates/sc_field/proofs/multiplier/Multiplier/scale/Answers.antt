@@ -9,7 +9,7 @@ returns-then-eq g c =
     let old = c.args.dst.now in
     let zero : x ≡ g.F.Field.zero =
     (g.met.F.Field.exact.exact x c.zero.result c.known.ensures c.zero.ensures.element).0 (sym c.eq.ensures ∙ c.if-eq.true) ∙ c.zero.ensures.value in
-    c.fill.ensures.after (λ y e. e) ∙ map-none (g.F.Field.act x) old (λ k. ap (λ y. g.F.Field.act y (get_or old k 0)) zero ∙ g.met.F.Field.action.by_zero _ (c.are_bytes.ensures k))
+    c.clear.ensures ∙ map-none (g.F.Field.act x) old (λ k. ap (λ y. g.F.Field.act y (get_or old k 0)) zero ∙ g.met.F.Field.action.by_zero _ (c.are_bytes.ensures k))
 
 pub returns-else-ne : goal.returns-else-ne
 returns-else-ne g c =
