@@ -42,3 +42,11 @@ scaled_sum-same f g (d ∷ dst) (s ∷ src) same =
 
 pub scaled_sum-none : (f : ℕ → ℕ) (dst src : List ℕ) → ((k : ℕ) → f (get_or src k 0) ≡ 0) → scaled_sum f dst src ≡ dst
 scaled_sum-none f dst src none = scaled_sum-same f (λ b. 0) dst src none ∙ scaled_sum-zero (λ b. 0) (λ b. refl) dst src
+
+-- the image under an f that gives 0 everywhere, and under one that changes nothing
+pub map-none : (f : ℕ → ℕ) (src : List ℕ) → ((k : ℕ) → f (get_or src k 0) ≡ 0) → replicate (length src) 0 ≡ map f src
+map-none f src none = sym (scaled_sum-none f (replicate (length src) 0) src none) ∙ scaled_sum-zeros f src
+
+pub map-same : (f : ℕ → ℕ) (src : List ℕ) → ((k : ℕ) → f (get_or src k 0) ≡ get_or src k 0) → src ≡ map f src
+map-same f [] same = refl
+map-same f (s ∷ src) same = ap₂ (λ (n : ℕ) (xs : List ℕ). n ∷ xs) (sym (same 0)) (map-same f src (λ k. same (suc k)))

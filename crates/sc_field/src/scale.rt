@@ -1,5 +1,5 @@
 //! Products of a field's element with many bytes at once.
-ghost use Rattle.std.specs.Prelude.{◌≡◌, ◌+◌, ◌<◌, ◌≤◌, map, length, if◌then◌else◌};
+ghost use Rattle.std.specs.Prelude.{◌≡◌, ℕ, ◌+◌, ◌<◌, ◌≤◌, map, length, replicate, slice_index, if◌then◌else◌};
 ghost use Rattle.sc_field.specs.Scale.{scaled_sum};
 
 use crate::field::Field;
@@ -19,7 +19,8 @@ pub fn add_bytes(dst: &mut [u8], src: &[u8])
 
 /// Adds `c` times `src` to `dst`: each `dst[x]` becomes `dst[x]` xor `act(c, src[x])`.
 ///
-/// For many slices with one coefficient, make a [`Multiplier`] once.
+/// For many slices with one coefficient, make a [`Multiplier`] once. For the coefficient 0 nothing is read, and for 1 nothing is
+/// looked up.
 pub fn scale_add<F: Field>(dst: &mut [u8], c: F, src: &[u8])
     requires { length src.now ≡ length dst.old }
     ensures { dst.new ≡ scaled_sum (F.act c) dst.old src.now }
@@ -56,6 +57,28 @@ fn add_unscaled<F: Field>(dst: &mut [u8], c: F, src: &[u8]) -> bool
 fn is_unscaled<F: Field>(c: F) -> bool {
     c == F::zero() || c == F::one()
 }
+
+// Apart from its callers, as `copy` is, so that these stay short.
+#[inline(never)]
+fn clear(dst: &mut [u8])
+    ensures { dst.new ≡ replicate (length dst.old) 0 }
+{
+    dst.fill(0);
+}
+
+#[inline(never)]
+fn copy(dst: &mut [u8], src: &[u8])
+    requires { length src.now ≡ length dst.old }
+    ensures { dst.new ≡ src.now }
+{
+    dst.copy_from_slice(src);
+}
+
+// Does nothing. Its contract tells a proof that what a slice holds are bytes.
+#[inline(always)]
+fn are_bytes(s: &[u8])
+    ensures { (k : ℕ) → slice_index s.now k < 256 }
+{}
 
 fn add_by_bytes<F: Field>(dst: &mut [u8], c: F, src: &[u8])
     requires { length src.now ≡ length dst.old }
@@ -138,7 +161,24 @@ impl<F: Field> Multiplier<F> {
     }
 
     /// Writes the coefficient times `src` to `dst`: each `dst[x]` becomes `act(coefficient, src[x])`.
+    ///
+    /// For the coefficient 0 it writes zeros and reads nothing, and for 1 it copies `src`.
     pub fn set(&self, dst: &mut [u8], src: &[u8])
+        requires { length src.now ≡ length dst.old }
+        ensures { dst.new ≡ map (F.act self.now.coefficient) src.now }
+    {
+        self.coefficient.known();
+        if self.coefficient == F::zero() {
+            clear(dst);
+        } else if self.coefficient == F::one() {
+            copy(dst, src);
+        } else {
+            self.set_scaled(dst, src);
+        }
+    }
+
+    #[inline(always)]
+    fn set_scaled(&self, dst: &mut [u8], src: &[u8])
         requires { length src.now ≡ length dst.old }
         ensures { dst.new ≡ map (F.act self.now.coefficient) src.now }
     {
@@ -151,7 +191,22 @@ impl<F: Field> Multiplier<F> {
     }
 
     /// Multiplies all of `dst` by the coefficient, in place.
+    ///
+    /// For the coefficient 0 it writes zeros and reads nothing, and for 1 it leaves `dst` as it is.
     pub fn scale(&self, dst: &mut [u8])
+        ensures { dst.new ≡ map (F.act self.now.coefficient) dst.old }
+    {
+        self.coefficient.known();
+        if self.coefficient == F::zero() {
+            are_bytes(dst);
+            clear(dst);
+        } else if self.coefficient != F::one() {
+            self.scale_by_tables(dst);
+        }
+    }
+
+    #[inline(always)]
+    fn scale_by_tables(&self, dst: &mut [u8])
         ensures { dst.new ≡ map (F.act self.now.coefficient) dst.old }
     {
         if dst.len() >= 32 {

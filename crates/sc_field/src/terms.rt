@@ -42,6 +42,8 @@ pub fn all_within<F: Field>(terms: &[Term<F>], width: usize, src: &[u8]) -> bool
 
 /// Writes to `dst` the sum of the terms: each `dst[x]` becomes the xor of `act(c, src[at + x])` over the terms' coefficients
 /// `c` and places `at`, and 0 if there are none. What `dst` held is lost.
+///
+/// For each term products are looked up, whatever its coefficient.
 pub fn combine<F: Field>(dst: &mut [u8], terms: &[Term<F>], src: &[u8])
     requires { All (λ t. IsWithin (length dst.old) src.now t.at) terms.now }
     ensures { dst.new ≡ combined (λ t. F.act t.multiplier.coefficient) (λ t. t.at) terms.now (replicate (length dst.old) 0) src.now }
@@ -49,7 +51,8 @@ pub fn combine<F: Field>(dst: &mut [u8], terms: &[Term<F>], src: &[u8])
     write_sums(dst, terms, src, true);
 }
 
-/// Adds the sum of the terms to `dst`, as [`Multiplier::scale_add`] would with each in turn.
+/// Adds the sum of the terms to `dst`, as [`Multiplier::scale_add`] would with each in turn. It looks products up as [`combine`]
+/// does.
 pub fn combine_add<F: Field>(dst: &mut [u8], terms: &[Term<F>], src: &[u8])
     requires { All (λ t. IsWithin (length dst.old) src.now t.at) terms.now }
     ensures { dst.new ≡ combined (λ t. F.act t.multiplier.coefficient) (λ t. t.at) terms.now dst.old src.now }

@@ -298,3 +298,19 @@ fn sums_over_two_elements(rt: HostRuntime) -> Result<(), Fail> {
     assert_eq!(rt; dst, [0x11; 33]);
     Ok(())
 }
+
+#[test]
+fn products_over_two_elements(rt: HostRuntime) -> Result<(), Fail> {
+    let src = [0x53; 33];
+    let mut dst = [0x11; 33];
+    Multiplier::new(Gf2::one()).scale(&mut dst);
+    assert_eq!(rt; dst, [0x11; 33]);
+    Multiplier::new(Gf2::one()).set(&mut dst, &src);
+    assert_eq!(rt; dst, [0x53; 33]);
+    Multiplier::new(Gf2::zero()).scale(&mut dst);
+    assert_eq!(rt; dst, [0; 33]);
+    dst = [0x11; 33];
+    Multiplier::new(Gf2::zero()).set(&mut dst, &src);
+    assert_eq!(rt; dst, [0; 33]);
+    Ok(())
+}

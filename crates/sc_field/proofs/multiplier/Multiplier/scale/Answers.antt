@@ -1,15 +1,20 @@
-use Rattle.std.proofs.Common.{◌≡◌, ℕ, ◌+◌, length, get_or, map, ap, arith}
-use Rattle.sc_field.specs.Terms.{two_ends}
-use Rattle.sc_field.proofs.Making.{scaled_lanes, two_made, length-mapped, get_or-mapped}
+use Rattle.std.proofs.Common.{◌≡◌, get_or, sym, ap, ◌∙◌}
+use Rattle.std.proofs.lemmas.Bool.{not-false}
+use Rattle.sc_field.proofs.ScaledSum.{map-none, map-same}
 use Rattle.sc_field.proofs.multiplier.Multiplier.scale.Goals as goal
 
-from_zero : (n : ℕ) → 0 + n ≡ n
-from_zero n = omega arith
-
-pub returns-then-dst-ge16 : goal.returns-then-dst-ge16
-returns-then-dst-ge16 g c =
-    let f = g.F.Field.act c.args.self.now.coefficient in
+pub returns-then-eq : goal.returns-then-eq
+returns-then-eq g c =
+    let x = c.args.self.now.coefficient in
     let old = c.args.dst.now in
-    let is = scaled_lanes f old old c.load_halves.result c.times-product.result 32 32 (two_ends 16 (length old)) (λ j. 0 + two_ends 16 (length old) j) (omega arith) (λ j. ap (λ (i : ℕ). get_or old i 0) (from_zero (two_ends 16 (length old) j))) c.load_halves.ensures c.times-product.ensures in
-    rw c.store_halves.ensures
-    (two_made (λ k. f (get_or old k 0)) old c.times-product.result (map f old) 16 32 (omega arith) (omega arith) (omega arith) is (length-mapped f old) (get_or-mapped f old))
+    let zero : x ≡ g.F.Field.zero =
+    (g.met.F.Field.exact.exact x c.zero.result c.known.ensures c.zero.ensures.element).0 (sym c.eq.ensures ∙ c.if-eq.true) ∙ c.zero.ensures.value in
+    c.clear.ensures ∙ map-none (g.F.Field.act x) old (λ k. ap (λ y. g.F.Field.act y (get_or old k 0)) zero ∙ g.met.F.Field.action.by_zero _ (c.are_bytes.ensures k))
+
+pub returns-else-ne : goal.returns-else-ne
+returns-else-ne g c =
+    let x = c.args.self.now.coefficient in
+    let old = c.args.dst.now in
+    let one : x ≡ g.F.Field.one =
+    (g.met.F.Field.exact.exact x c.one.result c.known.ensures c.one.ensures.element).0 (not-false _ (sym c.ne.ensures ∙ c.if-ne.false)) ∙ c.one.ensures.value in
+    map-same (g.F.Field.act x) old (λ k. ap (λ y. g.F.Field.act y (get_or old k 0)) one ∙ g.met.F.Field.action.by_one _ (c.type_inv.dst k).fits)
