@@ -2,7 +2,7 @@
 
 use super::*;
 use sc_channel::{Channel, Flags, MAX_FLAGS};
-use sc_code::{Code, CodeFile};
+use sc_code::{ByteCode, Code, CodeFile};
 use sc_field::{Field, Gf256};
 use sc_matrix::Matrix;
 use std::alloc::Global;
@@ -29,25 +29,36 @@ fn printed_as_read(rt: HostRuntime) -> Result<(), Fail> {
     Ok(())
 }
 
+// Whether a coefficient of the code is 1 or 0, as is wanted.
+fn is_one_or_zero(code: &ByteCode, lag: usize, row: usize, column: usize, one: bool) -> bool {
+    lag <= code.memory()
+        && row < code.k()
+        && column < code.r()
+        && code.coefficient(lag, row, column).number() == one as u8
+}
+
+const ONES: &[(usize, usize, usize)] = &[(1, 1, 0), (2, 0, 0), (3, 0, 1), (3, 1, 2)];
+
+fn has_ones(code: &ByteCode) -> bool {
+    for at in 0..30 {
+        let place = (at / 6, at / 3 % 2, at % 3);
+        let mut one = false;
+        for p in ONES {
+            one = one || *p == place;
+        }
+        if !is_one_or_zero(code, place.0, place.1, place.2, one) {
+            return false;
+        }
+    }
+    code.k() == 2 && code.r() == 3 && code.memory() == 4
+}
+
 #[test]
 fn numbers_as_written(rt: HostRuntime) -> Result<(), Fail> {
     let file = read_code(rt.alloc(), THREE_PARITIES.as_bytes())?;
     let channel = file.channel;
-    assert_eq!(rt;
-        (channel.w(), channel.b(), channel.n(), channel.t()),
-        (4, 3, 2, 3)
-    );
-    let code = &file.code;
-    assert!(rt; code.k() == 2 && code.r() == 3 && code.memory() == 4);
-    let ones = [(1, 1, 0), (2, 0, 0), (3, 0, 1), (3, 1, 2)];
-    for at in 0..30 {
-        let place = (at / 6, at / 3 % 2, at % 3);
-        if place.0 <= code.memory() && place.1 < code.k() && place.2 < code.r() {
-            let one = ones.iter().any(|p| *p == place);
-            let number = code.coefficient(place.0, place.1, place.2).number();
-            assert!(rt; number == one as u8, "{at}");
-        }
-    }
+    assert!(rt; (channel.w(), channel.b(), channel.n(), channel.t()) == (4, 3, 2, 3));
+    assert!(rt; has_ones(&file.code));
     Ok(())
 }
 
@@ -460,23 +471,29 @@ const LOSSES: &[(&str, Result<&str, FileFault>)] = &[
     ("{\"loss\":\"01 \"}", Err(FileFault::Range(Key::Loss))),
 ];
 
+// Whether the flags are those of the word.
+fn are_flags(flags: &[bool], word: &str) -> bool {
+    for (place, byte) in word.as_bytes().iter().enumerate() {
+        if flags.get(place) != Some(&(*byte == b'1')) {
+            return false;
+        }
+    }
+    flags.len() == word.len()
+}
+
+fn is_loss(alloc: Global, text: &str, expected: Result<&str, FileFault>) -> bool {
+    match (read_loss(alloc, text.as_bytes()), expected) {
+        (Ok(flags), Ok(word)) => are_flags(flags.as_slice(), word),
+        (Err(fault), Err(want)) => fault == want,
+        _ => false,
+    }
+}
+
 #[test]
 fn losses(rt: HostRuntime) -> Result<(), Fail> {
     for row in LOSSES {
         let (text, expected) = *row;
-        match (read_loss(rt.alloc(), text.as_bytes()), expected) {
-            (Ok(flags), Ok(word)) => {
-                assert_eq!(rt; flags.len(), word.len());
-                for (place, byte) in word.as_bytes().iter().enumerate() {
-                    assert!(rt;
-                        flags.as_slice().get(place) == Some(&(*byte == b'1')),
-                        "{text}"
-                    );
-                }
-            }
-            (Err(fault), Err(want)) => assert_eq!(rt; fault, want),
-            _ => Err("another answer")?,
-        }
+        assert!(rt; is_loss(rt.alloc(), text, expected), "{text}");
     }
     Ok(())
 }

@@ -1,10 +1,13 @@
 //! The worked matrix over both fields, each public call once at each of them, and the sizes of real use.
-ghost use Rattle.std.specs.Prelude.{◌*◌, ◌<◌, ◌≤◌};
+//!
+//! The helpers have no contract, so that a test is short to prove. Where a place isn't there, one that tells answers
+//! `false`, and one that writes writes nothing, which then misses.
+ghost use Rattle.std.specs.Prelude.{◌*◌, ◌≤◌};
 
 use super::*;
 use sc_field::{Field, Gf2, Gf256};
+use sc_outside::NoMemory;
 use std::alloc::Global;
-use std::process::Abort;
 use std::test::Fail;
 
 // The element with this number.
@@ -12,332 +15,357 @@ fn element<F: Field>(n: u8) -> Result<F, Fail> {
     Ok(F::from_number(n).ok_or("no element has this number")?)
 }
 
+// Whether the entry at this place has this number.
+fn is_at<F: Field>(m: &Matrix<F>, i: usize, j: usize, n: u8) -> bool {
+    i < m.rows() && j < m.cols() && m.get(i, j).number() == n
+}
+
+// Whether the matrix has these sizes, and its entries these numbers, row by row.
+fn is_matrix<F: Field>(m: &Matrix<F>, rows: usize, cols: usize, numbers: &[u8]) -> bool {
+    if m.rows() != rows || m.cols() != cols {
+        return false;
+    }
+    for (k, n) in numbers.iter().enumerate() {
+        if cols == 0 || !is_at(m, k / cols, k % cols, *n) {
+            return false;
+        }
+    }
+    true
+}
+
+fn put<F: Field>(m: &mut Matrix<F>, i: usize, j: usize, number: u8) -> Result<(), Fail> {
+    let x = element(number)?;
+    if i < m.rows() && j < m.cols() {
+        m.set(i, j, x);
+    }
+    Ok(())
+}
+
+// Writes the numbers row by row.
+fn put_all<F: Field>(m: &mut Matrix<F>, numbers: &[u8]) -> Result<(), Fail> {
+    let cols = m.cols();
+    for (k, n) in numbers.iter().enumerate() {
+        if cols > 0 {
+            put(m, k / cols, k % cols, *n)?;
+        }
+    }
+    Ok(())
+}
+
 // The matrix of two rows and two columns with these numbers, row by row.
 fn square<F: Field>(alloc: Global, numbers: [u8; 4]) -> Result<Matrix<F>, Fail> {
     let mut m = Matrix::zeros(alloc, 2, 2)?;
-    for (k, n) in numbers.iter().enumerate() {
-        let (i, j) = (k / 2, k % 2);
-        if i < m.rows() && j < m.cols() {
-            m.set(i, j, element(*n)?);
-        }
-    }
+    put_all(&mut m, &numbers)?;
     Ok(m)
 }
 
-// Asserts the sizes of the matrix and the numbers of its entries, row by row.
-fn assert_matrix<F: Field>(rt: &impl Abort, m: &Matrix<F>, rows: usize, cols: usize, numbers: &[u8])
-    requires { 0 < cols }
-{
-    assert_eq!(rt; m.rows(), rows);
-    assert_eq!(rt; m.cols(), cols);
-    for (k, n) in numbers.iter().enumerate() {
-        let (i, j) = (k / cols, k % cols);
-        assert!(rt; i < m.rows() && j < m.cols());
-        assert_eq!(rt; m.get(i, j).number(), *n, "entry {i} {j}");
-    }
+// The matrix of two rows and one column with these numbers.
+fn standing<F: Field>(alloc: Global, numbers: [u8; 2]) -> Result<Matrix<F>, Fail> {
+    let mut m = Matrix::zeros(alloc, 2, 1)?;
+    put_all(&mut m, &numbers)?;
+    Ok(m)
 }
 
-// The square times the column as a matrix.
-fn image_of_matrix<F: Field>(
-    rt: &impl Abort,
+// Whether the square times the column as a matrix is the image.
+fn is_image<F: Field>(
     alloc: Global,
-    numbers: [u8; 4],
+    m: &Matrix<F>,
     column: [u8; 2],
     image: [u8; 2],
-) -> Result<(), Fail> {
-    let m = square::<F>(alloc, numbers)?;
-    let mut v = Matrix::zeros(alloc, 2, 1)?;
-    for (i, n) in column.iter().enumerate() {
-        if i < v.rows() && 0 < v.cols() {
-            v.set(i, 0, element(*n)?);
-        }
+) -> Result<bool, Fail> {
+    let v = standing(alloc, column)?;
+    if m.rows() != 2 || m.cols() != v.rows() || v.cols() != 1 {
+        return Ok(false);
     }
-    assert!(rt; m.rows() == 2 && m.cols() == 2);
-    assert!(rt; v.rows() == 2 && v.cols() == 1);
-    assert_matrix(rt, &m.mul(alloc, &v)?, 2, 1, &image);
-    Ok(())
+    Ok(is_matrix(&m.mul(alloc, &v)?, 2, 1, &image))
 }
 
-// The square times the column as a vector.
-fn image_of_vector<F: Field>(
-    rt: &impl Abort,
-    alloc: Global,
-    numbers: [u8; 4],
-    column: [u8; 2],
-    image: [u8; 2],
-) -> Result<(), Fail> {
-    let m = square::<F>(alloc, numbers)?;
+fn vector<F: Field>(alloc: Global, numbers: [u8; 2]) -> Result<Vec<F>, Fail> {
     let mut v = Vec::new(alloc);
-    v.push(element::<F>(column[0])?)?;
-    v.push(element::<F>(column[1])?)?;
-    assert!(rt; m.cols() == v.len());
-    let w = m.mul_vec(alloc, &v)?;
-    assert_eq!(rt; w.len(), 2);
-    assert_eq!(rt; w[0].number(), image[0]);
-    assert_eq!(rt; w[1].number(), image[1]);
-    Ok(())
+    for n in numbers {
+        v.push(element(n)?)?;
+    }
+    Ok(v)
 }
 
-// The other matrices that the square gives.
-fn shapes<F: Field>(rt: &impl Abort, alloc: Global, numbers: [u8; 4]) -> Result<(), Fail> {
-    let m = square::<F>(alloc, numbers)?;
-    assert_matrix(rt, &m, 2, 2, &numbers);
-    assert_matrix(rt, &m.copy(alloc)?, 2, 2, &numbers);
+// Whether the square times the column as a vector is the image.
+fn is_image_of_vector<F: Field>(
+    alloc: Global,
+    m: &Matrix<F>,
+    column: [u8; 2],
+    image: [u8; 2],
+) -> Result<bool, Fail> {
+    let v = vector(alloc, column)?;
+    if m.cols() != v.len() {
+        return Ok(false);
+    }
+    let w = m.mul_vec(alloc, &v)?;
+    Ok(w.len() == 2 && w[0].number() == image[0] && w[1].number() == image[1])
+}
+
+fn copies<F: Field>(alloc: Global, m: &Matrix<F>, numbers: [u8; 4]) -> Result<bool, NoMemory> {
+    Ok(is_matrix(&m.copy(alloc)?, 2, 2, &numbers))
+}
+
+fn turns<F: Field>(alloc: Global, m: &Matrix<F>, numbers: [u8; 4]) -> Result<bool, NoMemory> {
     let [a, b, c, d] = numbers;
-    assert_matrix(rt, &m.transpose(alloc)?, 2, 2, &[a, c, b, d]);
-    assert!(rt; m.rows() == 2 && m.cols() == 2);
-    assert_matrix(rt, &m.submatrix(alloc, &[1], &[0])?, 1, 1, &[c]);
-    assert_matrix(rt, &Matrix::<F>::zeros(alloc, 1, 2)?, 1, 2, &[0, 0]);
+    Ok(is_matrix(&m.transpose(alloc)?, 2, 2, &[a, c, b, d]))
+}
+
+// The submatrix of one entry.
+fn cuts<F: Field>(alloc: Global, m: &Matrix<F>, numbers: [u8; 4]) -> Result<bool, NoMemory> {
+    if m.rows() != 2 || m.cols() != 2 {
+        return Ok(false);
+    }
+    Ok(is_matrix(&m.submatrix(alloc, &[1], &[0])?, 1, 1, &[numbers[2]]))
+}
+
+// One row of zeros, and no row, which turned is no column.
+fn zero_shapes<F: Field>(alloc: Global) -> Result<bool, NoMemory> {
+    let row = Matrix::<F>::zeros(alloc, 1, 2)?;
     let none = Matrix::<F>::zeros(alloc, 0, 2)?;
-    assert_eq!(rt; (none.rows(), none.cols()), (0, 2));
     let flat = none.transpose(alloc)?;
-    assert_eq!(rt; (flat.rows(), flat.cols()), (2, 0));
-    Ok(())
+    Ok(is_matrix(&row, 1, 2, &[0, 0]) && is_matrix(&none, 0, 2, &[]) && is_matrix(&flat, 2, 0, &[]))
+}
+
+fn swap<F: Field>(m: &mut Matrix<F>, a: usize, b: usize) {
+    if a < m.rows() && b < m.rows() {
+        m.row_swap(a, b);
+    }
+}
+
+fn scale<F: Field>(m: &mut Matrix<F>, a: usize, c: F) {
+    c.known();
+    F::zero().known();
+    if a < m.rows() && c != F::zero() {
+        m.row_scale(a, c);
+    }
+}
+
+fn add<F: Field>(m: &mut Matrix<F>, a: usize, c: F, b: usize) {
+    if a < m.rows() && b < m.rows() && a != b {
+        m.row_add(a, c, b);
+    }
+}
+
+fn add_from<F: Field>(m: &mut Matrix<F>, a: usize, c: F, b: usize, start: usize) {
+    if a < m.rows() && b < m.rows() && a != b && start <= m.cols() {
+        m.row_add_from(a, c, b, start);
+    }
 }
 
 // The row operations one after another: the rows exchanged, row 0 times the factor, and the factor times row 1
 // added to row 0.
-fn row_operations<F: Field>(
-    rt: &impl Abort,
-    alloc: Global,
-    numbers: [u8; 4],
-    factor: u8,
-    ends: [[u8; 4]; 3],
-) -> Result<(), Fail> {
-    let mut m = square::<F>(alloc, numbers)?;
+fn operates<F: Field>(m: &mut Matrix<F>, factor: u8, ends: [[u8; 4]; 3]) -> Result<bool, Fail> {
     let c = element::<F>(factor)?;
-    c.known();
-    F::zero().known();
-    assert!(rt; c != F::zero());
-    assert!(rt; m.rows() == 2);
-    m.row_swap(0, 1);
-    assert_matrix(rt, &m, 2, 2, &ends[0]);
-    assert!(rt; m.rows() == 2);
-    m.row_scale(0, c);
-    assert_matrix(rt, &m, 2, 2, &ends[1]);
-    assert!(rt; m.rows() == 2);
-    m.row_add(0, c, 1);
-    assert_matrix(rt, &m, 2, 2, &ends[2]);
+    swap(m, 0, 1);
+    let swapped = is_matrix(m, 2, 2, &ends[0]);
+    scale(m, 0, c);
+    let scaled = is_matrix(m, 2, 2, &ends[1]);
+    add(m, 0, c, 1);
+    Ok(swapped && scaled && is_matrix(m, 2, 2, &ends[2]))
+}
+
+// Appends a row of another matrix of two columns to one with room.
+fn push<F: Field>(out: &mut Matrix<F>, m: &Matrix<F>, i: usize) -> Result<(), NoMemory> {
+    if i < m.rows() && m.cols() == 2 && out.cols() == 2 && out.rows() < 3 {
+        out.push_row(m.row(i))?;
+    }
     Ok(())
 }
 
-// The calls that write, read and drop whole rows.
-fn whole_rows<F: Field>(rt: &impl Abort, alloc: Global, numbers: [u8; 4]) -> Result<(), Fail> {
-    let m = square::<F>(alloc, numbers)?;
-    let mut rows = Matrix::<F>::with_capacity(alloc, 3, 2)?;
-    assert!(rt; m.rows() == 2 && m.cols() == 2);
-    assert!(rt; rows.rows() == 0 && rows.cols() == 2);
-    assert_eq!(rt; m.row(1), &numbers[2..]);
-    rows.push_row(m.row(1))?;
-    assert!(rt; rows.rows() == 1 && rows.cols() == 2);
-    rows.push_row(m.row(0))?;
-    assert_matrix(
-        rt,
-        &rows,
-        2,
-        2,
-        &[numbers[2], numbers[3], numbers[0], numbers[1]],
-    );
-    assert!(rt; rows.rows() == 2 && rows.cols() == 2);
-    rows.write_row(0, m.row(0));
-    assert_matrix(
-        rt,
-        &rows,
-        2,
-        2,
-        &[numbers[0], numbers[1], numbers[0], numbers[1]],
-    );
-    assert!(rt; rows.rows() == 2 && rows.cols() == 2);
-    assert!(rt; rows != m);
-    rows.copy_from(&m);
-    assert!(rt; rows == m);
-    assert_matrix(rt, &rows, 2, 2, &numbers);
+fn write<F: Field>(out: &mut Matrix<F>, at: usize, m: &Matrix<F>, i: usize) {
+    if i < m.rows() && at < out.rows() && m.cols() == out.cols() {
+        out.write_row(at, m.row(i));
+    }
+}
+
+fn copy_from<F: Field>(out: &mut Matrix<F>, m: &Matrix<F>) {
+    if m.rows() == out.rows() && m.cols() == out.cols() {
+        out.copy_from(m);
+    }
+}
+
+fn has_row<F: Field>(m: &Matrix<F>, i: usize, numbers: &[u8]) -> bool {
+    i < m.rows() && m.row(i) == numbers
+}
+
+// The rows of the square the other way round, pushed.
+fn pushes<F: Field>(alloc: Global, m: &Matrix<F>) -> Result<Matrix<F>, NoMemory> {
+    let mut rows = Matrix::with_capacity(alloc, 3, 2)?;
+    push(&mut rows, m, 1)?;
+    push(&mut rows, m, 0)?;
+    Ok(rows)
+}
+
+// Whether the calls that write and drop whole rows do so, on those of the square the other way round.
+fn writes<F: Field>(rows: &mut Matrix<F>, m: &Matrix<F>, numbers: [u8; 4]) -> bool {
+    let [a, b, c, d] = numbers;
+    let pushed = is_matrix(rows, 2, 2, &[c, d, a, b]);
+    write(rows, 0, m, 0);
+    let written = is_matrix(rows, 2, 2, &[a, b, a, b]) && *rows != *m;
+    copy_from(rows, m);
+    pushed && written && is_matrix(rows, 2, 2, &numbers) && *rows == *m
+}
+
+fn drops<F: Field>(rows: &mut Matrix<F>, numbers: [u8; 4]) -> bool {
     rows.truncate(1);
-    assert_matrix(rt, &rows, 1, 2, &numbers[..2]);
+    let cut = is_matrix(rows, 1, 2, &[numbers[0], numbers[1]]);
     rows.clear();
-    assert_eq!(rt; (rows.rows(), rows.cols()), (0, 2));
-    Ok(())
+    cut && is_matrix(rows, 0, 2, &[])
 }
 
-// The first entry of a row that is not zero, and a sum from a column on.
-fn zeros_in_rows<F: Field>(rt: &impl Abort, alloc: Global) -> Result<(), Fail> {
-    let mut m = Matrix::<F>::identity(alloc, 3)?;
-    assert_matrix(rt, &m, 3, 3, &[1, 0, 0, 0, 1, 0, 0, 0, 1]);
-    assert!(rt; m.rows() == 3 && m.cols() == 3);
-    assert_eq!(rt; m.first_nonzero(1), Some(1));
-    m.set(1, 1, F::zero());
-    m.set(0, 0, F::zero());
-    assert!(rt; m.rows() == 3 && m.cols() == 3);
-    assert_eq!(rt; m.first_nonzero(1), None);
-    assert!(rt; m.is_zero_row(1) && !m.is_zero_row(2));
-    m.set(2, 0, F::one());
-    m.set(2, 1, F::one());
-    assert!(rt; m.rows() == 3 && m.cols() == 3);
-    m.row_add_from(0, F::one(), 2, 1);
-    assert_matrix(rt, &m, 3, 3, &[0, 1, 1, 0, 0, 0, 1, 1, 1]);
-    Ok(())
+// Whether this is the first entry of the row that is not zero.
+fn is_first<F: Field>(m: &Matrix<F>, i: usize, first: Option<usize>) -> bool {
+    i < m.rows() && m.first_nonzero(i) == first
 }
 
-// A number that depends on both places, below `order`.
-fn mixed(i: usize, j: usize, order: u32) -> u8
-    requires { (0 < order) × (order ≤ 256) }
-{
+fn is_zero<F: Field>(m: &Matrix<F>, i: usize) -> bool {
+    i < m.rows() && m.is_zero_row(i)
+}
+
+// The identity of three rows whose rows 0 and 1 are made zero and row 2 one throughout, and a sum from a column on.
+fn zeros_in_rows<F: Field>(m: &mut Matrix<F>) -> Result<bool, Fail> {
+    let identity = is_matrix(m, 3, 3, &[1, 0, 0, 0, 1, 0, 0, 0, 1]) && is_first(m, 1, Some(1));
+    put_all(m, &[0, 0, 0, 0, 0, 0, 1, 1])?;
+    let zero = is_first(m, 1, None) && is_zero(m, 1) && !is_zero(m, 2);
+    add_from(m, 0, F::one(), 2, 1);
+    Ok(identity && zero && is_matrix(m, 3, 3, &[0, 1, 1, 0, 0, 0, 1, 1, 1]))
+}
+
+// A number that depends on both places.
+fn mixed(i: usize, j: usize) -> u8 {
     let i = (i % 1009) as u32;
     let j = (j % 1013) as u32;
-    ((i * 31 + j * 17 + i * j) % order) as u8
+    ((i * 31 + j * 17 + i * j) % 256) as u8
 }
 
-fn number_at<F: Field>(rt: &impl Abort, m: &Matrix<F>, i: usize, j: usize) -> u8 {
-    assert!(rt; i < m.rows());
-    assert!(rt; j < m.cols());
-    m.get(i, j).number()
-}
-
-fn put<F: Field>(
-    rt: &impl Abort,
-    m: &mut Matrix<F>,
-    i: usize,
-    j: usize,
-    number: u8,
-) -> Result<(), Fail> {
-    let x = element(number)?;
-    assert!(rt; i < m.rows());
-    assert!(rt; j < m.cols());
-    m.set(i, j, x);
-    Ok(())
-}
-
-// The matrix of these sizes whose entries have the mixed numbers.
-fn filled<F: Field>(
-    rt: &impl Abort,
-    alloc: Global,
-    rows: usize,
-    cols: usize,
-    order: u32,
-) -> Result<Matrix<F>, Fail>
-    requires size { rows * cols ≤ MAX_ENTRIES }
-    requires order { (0 < order) × (order ≤ 256) }
+// The matrix of these sizes whose entries have those bits of the mixed numbers that the mask has.
+fn filled<F: Field>(alloc: Global, rows: usize, cols: usize, mask: u8) -> Result<Matrix<F>, Fail>
+    requires { rows * cols ≤ MAX_ENTRIES }
 {
     let mut m = Matrix::zeros(alloc, rows, cols)?;
     for i in 0..rows {
         for j in 0..cols {
-            put(rt, &mut m, i, j, mixed(i, j, order))?;
+            put(&mut m, i, j, mixed(i, j) & mask)?;
         }
     }
     Ok(m)
 }
 
-// The product of a matrix with `n` rows and one with `n` columns.
-fn multiply<F: Field>(
-    rt: &impl Abort,
-    alloc: Global,
-    a: &Matrix<F>,
-    b: &Matrix<F>,
-    n: usize,
-) -> Result<Matrix<F>, Fail>
-    requires { n * n ≤ MAX_ENTRIES }
-{
-    assert!(rt; a.cols() == b.rows());
-    assert!(rt; a.rows() == n);
-    assert!(rt; b.cols() == n);
-    Ok(a.mul(alloc, b)?)
-}
-
 // The number of the entry of the product by the definition.
-fn entry_of_product<F: Field>(
-    rt: &impl Abort,
-    a: &Matrix<F>,
-    b: &Matrix<F>,
-    i: usize,
-    j: usize,
-) -> u8 {
-    assert!(rt; a.cols() == b.rows());
-    assert!(rt; i < a.rows());
-    assert!(rt; j < b.cols());
+fn entry_of_product<F: Field>(a: &Matrix<F>, b: &Matrix<F>, i: usize, j: usize) -> u8 {
     let mut total = F::zero();
-    for k in 0..a.cols() {
-        total = total.add(a.get(i, k).mul(b.get(k, j)));
+    if a.cols() == b.rows() && i < a.rows() && j < b.cols() {
+        for k in 0..a.cols() {
+            total = total.add(a.get(i, k).mul(b.get(k, j)));
+        }
     }
     total.number()
 }
 
-// A product, entry by entry beside the definition.
-fn product_of_size<F: Field>(
-    rt: &impl Abort,
-    alloc: Global,
-    n: usize,
-    inner: usize,
-    order: u32,
-) -> Result<(), Fail>
-    requires size { n * inner ≤ MAX_ENTRIES }
-    requires square { n * n ≤ MAX_ENTRIES }
-    requires order { (0 < order) × (order ≤ 256) }
-{
-    let a = filled::<F>(rt, alloc, n, inner, order)?;
-    let b = a.transpose(alloc)?;
-    let p = multiply(rt, alloc, &a, &b, n)?;
+// Whether each entry of a matrix of `n` rows and columns is that of the product by the definition.
+fn is_product<F: Field>(p: &Matrix<F>, a: &Matrix<F>, b: &Matrix<F>, n: usize) -> bool {
     for i in 0..n {
         for j in 0..n {
-            assert_eq!(rt;
-                number_at(rt, &p, i, j),
-                entry_of_product(rt, &a, &b, i, j),
-                "entry {i} {j}"
-            );
+            if !is_at(p, i, j, entry_of_product(a, b, i, j)) {
+                return false;
+            }
         }
     }
-    Ok(())
+    p.rows() == n && p.cols() == n
+}
+
+// Whether the product of a matrix with `n` rows and one with `n` columns is right.
+fn multiplies<F: Field>(
+    alloc: Global,
+    a: &Matrix<F>,
+    b: &Matrix<F>,
+    n: usize,
+) -> Result<bool, NoMemory>
+    requires { n * n ≤ MAX_ENTRIES }
+{
+    if a.cols() != b.rows() || a.rows() != n || b.cols() != n {
+        return Ok(false);
+    }
+    Ok(is_product(&a.mul(alloc, b)?, a, b, n))
+}
+
+// The matrix times its transpose, entry by entry beside the definition.
+fn product_of_size<F: Field>(alloc: Global, n: usize, inner: usize, mask: u8) -> Result<bool, Fail>
+    requires size { n * inner ≤ MAX_ENTRIES }
+    requires square { n * n ≤ MAX_ENTRIES }
+{
+    let a = filled::<F>(alloc, n, inner, mask)?;
+    let b = a.transpose(alloc)?;
+    Ok(multiplies(alloc, &a, &b, n)?)
 }
 
 #[test]
 fn products_of_real_size(rt: HostRuntime) -> Result<(), Fail> {
-    product_of_size::<Gf256>(&rt, rt.alloc(), 300, 600, 256)?;
-    product_of_size::<Gf2>(&rt, rt.alloc(), 70, 130, 2)
+    assert!(rt; product_of_size::<Gf256>(rt.alloc(), 300, 600, 255)?);
+    assert!(rt; product_of_size::<Gf2>(rt.alloc(), 70, 130, 1)?);
+    Ok(())
 }
 
-// The rows of the matrix pushed one after another, where there is room for all.
-fn pushed(rt: &impl Abort, alloc: Global, m: &Matrix<Gf256>) -> Result<Matrix<Gf256>, Fail> {
-    let mut out = Matrix::with_capacity(alloc, 300, 600)?;
-    let room = out.numbers.bytes.capacity();
+// Whether the matrix, or its transpose, has 300 rows and 600 columns of mixed numbers.
+fn is_mixed(m: &Matrix<Gf256>, turned: bool) -> bool {
     for i in 0..300 {
-        assert!(rt; m.cols() == 600);
-        assert!(rt; i < m.rows());
-        assert!(rt; out.rows() == i);
-        assert!(rt; out.cols() == 600);
+        for j in 0..600 {
+            let (a, b) = if turned { (j, i) } else { (i, j) };
+            if !is_at(m, a, b, mixed(i, j)) {
+                return false;
+            }
+        }
+    }
+    true
+}
+
+// The rows of the matrix pushed one after another, where there is room for all. Whether there was, and they are there.
+fn pushed(alloc: Global, m: &Matrix<Gf256>) -> Result<bool, NoMemory> {
+    let mut out = Matrix::with_capacity(alloc, 300, 600)?;
+    let room = room_of(&out);
+    for i in 0..300 {
+        push_wide(&mut out, m, i)?;
+    }
+    Ok(room_of(&out) == room && is_mixed(&out, false))
+}
+
+fn push_wide(out: &mut Matrix<Gf256>, m: &Matrix<Gf256>, i: usize) -> Result<(), NoMemory> {
+    if i < m.rows() && m.cols() == 600 && out.cols() == 600 && out.rows() < 300 {
         out.push_row(m.row(i))?;
     }
-    assert_eq!(rt; out.numbers.bytes.capacity(), room);
-    Ok(out)
+    Ok(())
 }
 
 // Four corners, in another order.
-fn corners(rt: &impl Abort, alloc: Global, m: &Matrix<Gf256>) -> Result<Matrix<Gf256>, Fail> {
-    assert!(rt; m.rows() == 300);
-    assert!(rt; m.cols() == 600);
-    Ok(m.submatrix(alloc, &[299, 0], &[0, 599])?)
+fn corners(alloc: Global, m: &Matrix<Gf256>) -> Result<bool, NoMemory> {
+    if m.rows() != 300 || m.cols() != 600 {
+        return Ok(false);
+    }
+    let part = m.submatrix(alloc, &[299, 0], &[0, 599])?;
+    let numbers = [mixed(299, 0), mixed(299, 599), mixed(0, 0), mixed(0, 599)];
+    Ok(is_matrix(&part, 2, 2, &numbers))
 }
 
 // The copies and cuts of a matrix of real size, entry by entry.
 #[test]
 fn shapes_of_real_size(rt: HostRuntime) -> Result<(), Fail> {
     let alloc = rt.alloc();
-    let m = filled::<Gf256>(&rt, alloc, 300, 600, 256)?;
-    let copy = m.copy(alloc)?;
-    let turned = m.transpose(alloc)?;
-    let rows = pushed(&rt, alloc, &m)?;
-    for i in 0..300 {
-        for j in 0..600 {
-            let n = mixed(i, j, 256);
-            assert_eq!(rt; number_at(&rt, &copy, i, j), n);
-            assert_eq!(rt; number_at(&rt, &rows, i, j), n);
-            assert_eq!(rt; number_at(&rt, &turned, j, i), n);
-        }
-    }
-    let part = corners(&rt, alloc, &m)?;
-    assert_eq!(rt; number_at(&rt, &part, 0, 0), mixed(299, 0, 256));
-    assert_eq!(rt; number_at(&rt, &part, 0, 1), mixed(299, 599, 256));
-    assert_eq!(rt; number_at(&rt, &part, 1, 0), mixed(0, 0, 256));
-    assert_eq!(rt; number_at(&rt, &part, 1, 1), mixed(0, 599, 256));
+    let m = filled::<Gf256>(alloc, 300, 600, 255)?;
+    assert!(rt; is_mixed(&m.copy(alloc)?, false));
+    assert!(rt; is_mixed(&m.transpose(alloc)?, true));
+    assert!(rt; pushed(alloc, &m)?);
+    assert!(rt; corners(alloc, &m)?);
     Ok(())
+}
+
+fn room_of(m: &Matrix<Gf256>) -> usize {
+    m.numbers.bytes.capacity()
+}
+
+fn room(made: Result<Matrix<Gf256>, NoMemory>) -> Result<usize, NoMemory> {
+    Ok(room_of(&made?))
 }
 
 // Each call reserves about what its entries take.
@@ -345,27 +373,14 @@ fn shapes_of_real_size(rt: HostRuntime) -> Result<(), Fail> {
 fn memory_of_real_size(rt: HostRuntime) -> Result<(), Fail> {
     let alloc = rt.alloc();
     let m = Matrix::<Gf256>::zeros(alloc, 300, 600)?;
-    assert!(rt; m.numbers.bytes.capacity() <= 200_000);
-    assert!(rt; m.copy(alloc)?.numbers.bytes.capacity() <= 200_000);
-    assert!(rt; m.transpose(alloc)?.numbers.bytes.capacity() <= 200_000);
-    let room = Matrix::<Gf256>::with_capacity(alloc, 300, 600)?;
-    assert!(rt; room.numbers.bytes.capacity() <= 200_000);
-    let one = Matrix::<Gf256>::identity(alloc, 300)?;
-    assert!(rt; one.numbers.bytes.capacity() <= 100_000);
+    let zeros = room_of(&m);
+    let copy = room(m.copy(alloc))?;
+    let turned = room(m.transpose(alloc))?;
+    let empty = room(Matrix::with_capacity(alloc, 300, 600))?;
+    let one = room(Matrix::identity(alloc, 300))?;
+    let most = zeros.max(copy).max(turned).max(empty);
+    assert!(rt; most <= 200_000 && one <= 100_000);
     Ok(())
-}
-
-fn add_rows(rt: &impl Abort, m: &mut Matrix<Gf256>, a: usize, c: Gf256, b: usize, start: usize) {
-    assert!(rt; a < m.rows());
-    assert!(rt; b < m.rows());
-    assert!(rt; a != b);
-    assert!(rt; start <= m.cols());
-    m.row_add_from(a, c, b, start);
-}
-
-fn first_in_row(rt: &impl Abort, m: &Matrix<Gf256>, i: usize) -> Option<usize> {
-    assert!(rt; i < m.rows());
-    m.first_nonzero(i)
 }
 
 // The largest matrix.
@@ -373,13 +388,11 @@ fn first_in_row(rt: &impl Abort, m: &Matrix<Gf256>, i: usize) -> Option<usize> {
 fn matrix_of_most_entries(rt: HostRuntime) -> Result<(), Fail> {
     let alloc = rt.alloc();
     let mut m = Matrix::<Gf256>::zeros(alloc, 8192, 8192)?;
-    put(&rt, &mut m, 8191, 8191, 7)?;
-    add_rows(&rt, &mut m, 0, Gf256::from(2), 8191, 0);
+    put(&mut m, 8191, 8191, 7)?;
+    add_from(&mut m, 0, Gf256::from(2), 8191, 0);
     let m = m.copy(alloc)?;
-    assert_eq!(rt; number_at(&rt, &m, 0, 8191), 14);
-    assert_eq!(rt; number_at(&rt, &m, 8191, 8191), 7);
-    assert_eq!(rt; first_in_row(&rt, &m, 0), Some(8191));
-    assert_eq!(rt; first_in_row(&rt, &m, 4000), None);
+    assert!(rt; is_at(&m, 0, 8191, 14) && is_at(&m, 8191, 8191, 7));
+    assert!(rt; is_first(&m, 0, Some(8191)) && is_first(&m, 4000, None));
     Ok(())
 }
 
@@ -388,61 +401,102 @@ fn sum(a: u8, c: Gf256, b: u8) -> u8 {
     Gf256::from(a).add(c.mul(Gf256::from(b))).number()
 }
 
+// The entry at row `i` and column `j` after the operations below: row 1 added to row 3 from column 37 on, row 2
+// multiplied, and the rows 4 and 0 exchanged.
+fn operated(i: usize, j: usize, c: Gf256) -> u8 {
+    match i {
+        0 => mixed(4, j),
+        2 => sum(0, c, mixed(2, j)),
+        3 => sum(mixed(3, j), c, if j < 37 { 0 } else { mixed(1, j) }),
+        4 => mixed(0, j),
+        _ => mixed(i, j),
+    }
+}
+
+fn is_operated(m: &Matrix<Gf256>, c: Gf256) -> bool {
+    for i in 0..5 {
+        for j in 0..600 {
+            if !is_at(m, i, j, operated(i, j, c)) {
+                return false;
+            }
+        }
+    }
+    true
+}
+
 // The row operations on long rows, entry by entry.
 #[test]
 fn row_operations_of_real_size(rt: HostRuntime) -> Result<(), Fail> {
-    let alloc = rt.alloc();
-    let mut m = filled::<Gf256>(&rt, alloc, 5, 600, 256)?;
+    let mut m = filled::<Gf256>(rt.alloc(), 5, 600, 255)?;
     let c = Gf256::from(29);
-    c.known();
-    Gf256::zero().known();
-    assert!(rt; c != Gf256::zero());
-    add_rows(&rt, &mut m, 3, c, 1, 37);
-    assert!(rt; m.rows() == 5);
-    m.row_scale(2, c);
-    assert!(rt; m.rows() == 5);
-    m.row_swap(4, 0);
-    for j in 0..600 {
-        let from = if j < 37 { 0 } else { mixed(1, j, 256) };
-        assert_eq!(rt;
-            number_at(&rt, &m, 3, j),
-            sum(mixed(3, j, 256), c, from),
-            "added {j}"
-        );
-        assert_eq!(rt;
-            number_at(&rt, &m, 2, j),
-            sum(0, c, mixed(2, j, 256)),
-            "multiplied {j}"
-        );
-        assert_eq!(rt; number_at(&rt, &m, 0, j), mixed(4, j, 256), "exchanged {j}");
-        assert_eq!(rt; number_at(&rt, &m, 4, j), mixed(0, j, 256), "exchanged {j}");
-        assert_eq!(rt; number_at(&rt, &m, 1, j), mixed(1, j, 256), "kept {j}");
-    }
+    add_from(&mut m, 3, c, 1, 37);
+    scale(&mut m, 2, c);
+    swap(&mut m, 4, 0);
+    assert!(rt; is_operated(&m, c));
     Ok(())
 }
 
-// Each public call on the square with these numbers.
-fn over<F: Field>(
-    rt: &impl Abort,
-    alloc: Global,
+// A square, its image of a column, a factor, and the squares after each row operation by it.
+struct Worked {
     numbers: [u8; 4],
     column: [u8; 2],
     image: [u8; 2],
     factor: u8,
     ends: [[u8; 4]; 3],
-) -> Result<(), Fail> {
-    image_of_matrix::<F>(rt, alloc, numbers, column, image)?;
-    image_of_vector::<F>(rt, alloc, numbers, column, image)?;
-    shapes::<F>(rt, alloc, numbers)?;
-    whole_rows::<F>(rt, alloc, numbers)?;
-    zeros_in_rows::<F>(rt, alloc)?;
-    row_operations::<F>(rt, alloc, numbers, factor, ends)
+}
+
+const BYTES: &Worked = &Worked {
+    numbers: [1, 2, 3, 1],
+    column: [1, 2],
+    image: [5, 1],
+    factor: 2,
+    ends: [[3, 1, 1, 2], [6, 2, 1, 2], [4, 6, 1, 2]],
+};
+
+const BITS: &Worked = &Worked {
+    numbers: [1, 0, 1, 1],
+    column: [1, 1],
+    image: [1, 0],
+    factor: 1,
+    ends: [[1, 1, 1, 0], [1, 1, 1, 0], [0, 1, 1, 0]],
+};
+
+// Whether the square has its image and its shapes.
+fn reads<F: Field>(alloc: Global, case: &Worked) -> Result<bool, Fail> {
+    let m = square::<F>(alloc, case.numbers)?;
+    Ok(
+        is_matrix(&m, 2, 2, &case.numbers)
+            && has_row(&m, 1, &[case.numbers[2], case.numbers[3]])
+            && is_image(alloc, &m, case.column, case.image)?
+            && is_image_of_vector(alloc, &m, case.column, case.image)?
+            && copies(alloc, &m, case.numbers)?
+            && turns(alloc, &m, case.numbers)?
+            && cuts(alloc, &m, case.numbers)?,
+    )
+}
+
+// Whether the calls that write to a matrix do so.
+fn changes<F: Field>(alloc: Global, case: &Worked) -> Result<bool, Fail> {
+    let mut m = square::<F>(alloc, case.numbers)?;
+    let mut rows = pushes(alloc, &m)?;
+    let written = writes(&mut rows, &m, case.numbers) && drops(&mut rows, case.numbers);
+    Ok(operates(&mut m, case.factor, case.ends)? && written)
+}
+
+// Each public call.
+fn over<F: Field>(alloc: Global, case: &Worked) -> Result<bool, Fail> {
+    let mut one = Matrix::<F>::identity(alloc, 3)?;
+    Ok(
+        zeros_in_rows(&mut one)?
+            && zero_shapes::<F>(alloc)?
+            && reads::<F>(alloc, case)?
+            && changes::<F>(alloc, case)?,
+    )
 }
 
 #[test]
 fn over_both_fields(rt: HostRuntime) -> Result<(), Fail> {
-    let bytes = [[3, 1, 1, 2], [6, 2, 1, 2], [4, 6, 1, 2]];
-    let bits = [[1, 1, 1, 0], [1, 1, 1, 0], [0, 1, 1, 0]];
-    over::<Gf256>(&rt, rt.alloc(), [1, 2, 3, 1], [1, 2], [5, 1], 2, bytes)?;
-    over::<Gf2>(&rt, rt.alloc(), [1, 0, 1, 1], [1, 1], [1, 0], 1, bits)
+    assert!(rt; over::<Gf256>(rt.alloc(), BYTES)?);
+    assert!(rt; over::<Gf2>(rt.alloc(), BITS)?);
+    Ok(())
 }

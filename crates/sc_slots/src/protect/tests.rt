@@ -8,7 +8,6 @@ use sc_code::Code;
 use sc_field::{Field, Gf256};
 use sc_matrix::Matrix;
 use sc_outside::{MemoryPort, Move};
-use std::process::Abort;
 use std::test::Fail;
 
 // The line `#!rtpplay1.0 127.0.0.1/5004` with its newline, and 16 bytes.
@@ -46,12 +45,14 @@ const LONGER: &[u8] =
 fn delayed(alloc: Global, r: usize) -> Result<CodeFile, Fail>
     requires { (1 ≤ r) × (r < 64) }
 {
-    let mut lags = Vec::new(alloc);
-    lags.push(Matrix::zeros(alloc, 1, r)?)?;
-    lags.push(Matrix::zeros(alloc, 1, r)?)?;
-    let mut last = Matrix::zeros(alloc, 1, r)?;
-    last.set(0, 0, Gf256::one());
-    lags.push(last)?;
+    let mut lags = Vec::with_capacity(alloc, 3)?;
+    for lag in 0..3 {
+        let mut parities = Matrix::zeros(alloc, 1, r)?;
+        if lag == 2 {
+            parities.set(0, 0, Gf256::one());
+        }
+        lags.push(parities)?;
+    }
     Ok(CodeFile {
         channel: Channel::new(3, 2, 1, 2)?,
         code: Code::new(1, r, lags)?,
@@ -74,19 +75,17 @@ fn port_of(
     MemoryPort::new(alloc, input, room, 100_000, piece, fails)
 }
 
-// Puts the record of a slot of 18 bytes a symbol behind others.
-fn push_slot(
-    bytes: &mut Vec<u8>,
-    offset: u8,
-    number: u8,
-    end: u8,
-    timestamp: u16,
-    block: &[u8],
-    parity: &[u8],
-) -> Result<(), Fail> {
+// A slot of 18 bytes a symbol: its offset, number, end, timestamp, block and parity.
+type Put = (u8, u8, u8, u16, &'static [u8], &'static [u8]);
+
+// Puts the record of a slot behind others.
+fn push_slot(bytes: &mut Vec<u8>, slot: &Put) -> Result<(), NoMemory> {
+    let (offset, number, end, timestamp, block, parity) = *slot;
     let [high, low] = timestamp.to_be_bytes();
-    bytes.extend_from_slice(&[0, 0x44, 0, 0x3c, 0, 0, 0, offset])?;
-    bytes.extend_from_slice(&[0x80, 0x60, 0, number, 0, 0, high, low])?;
+    let head = [
+        0, 0x44, 0, 0x3c, 0, 0, 0, offset, 0x80, 0x60, 0, number, 0, 0, high, low,
+    ];
+    bytes.extend_from_slice(&head)?;
     bytes.extend_from_slice(b"SCD1SC\x01\x01\x01")?;
     bytes.extend_from_slice(&[end, 0, 18, 0, 0, 0, number])?;
     bytes.extend_from_slice(block)?;
@@ -94,24 +93,64 @@ fn push_slot(
     Ok(())
 }
 
-// Protects a preamble and these records by the code above with packets of 12 bytes, and compares the answer and what stands
-// behind the preamble then.
-fn protects(
-    rt: &impl Abort,
-    alloc: Global,
-    records: &[u8],
-    want: Result<Protected, ProtectFault>,
-    given: &[u8],
-) -> Result<(), Fail> {
-    let file = delayed(alloc, 1)?;
+// A preamble and the records of these slots.
+fn given_of(alloc: Global, slots: &[Put]) -> Result<Vec<u8>, NoMemory> {
     let mut due = PREAMBLE.to_vec(alloc)?;
-    due.extend_from_slice(given)?;
-    for piece in [1, 7, 65_536] {
-        let mut port = port_of(alloc, records, 1000, piece, 100_000)?;
-        assert_eq!(rt; protect_all(alloc, &file, 12, &mut port), want);
-        assert_eq!(rt; port.given(), due.as_slice());
+    for slot in slots {
+        push_slot(&mut due, slot)?;
     }
-    Ok(())
+    Ok(due)
+}
+
+// The bytes of these parts, one behind another.
+fn joined(alloc: Global, parts: &[&[u8]]) -> Result<Vec<u8>, NoMemory> {
+    let mut bytes = Vec::new(alloc);
+    for part in parts {
+        bytes.extend_from_slice(part)?;
+    }
+    Ok(bytes)
+}
+
+// Protects by a code with packets of 12 bytes. Whether the answer is this one, and as many bytes were given.
+fn ends(
+    alloc: Global,
+    file: &CodeFile,
+    port: &mut MemoryPort,
+    want: Result<Protected, ProtectFault>,
+    given: usize,
+) -> bool {
+    protect_all(alloc, file, 12, port) == want && port.given().len() == given
+}
+
+// Protects a preamble and these records by a code. Whether the answer is this one, and what was given.
+fn protects_by(
+    alloc: Global,
+    file: &CodeFile,
+    records: &[u8],
+    piece: usize,
+    want: Result<Protected, ProtectFault>,
+    due: &[u8],
+) -> Result<bool, NoMemory> {
+    let mut port = port_of(alloc, records, 1000, piece.max(1), 100_000)?;
+    Ok(ends(alloc, file, &mut port, want, due.len()) && port.given() == due)
+}
+
+// The same by reads and writes of one byte, of seven, and of as many as there are.
+fn protects(
+    alloc: Global,
+    file: &CodeFile,
+    parts: &[&[u8]],
+    want: Result<Protected, ProtectFault>,
+    slots: &[Put],
+) -> Result<bool, NoMemory> {
+    let records = joined(alloc, parts)?;
+    let due = given_of(alloc, slots)?;
+    for piece in [1, 7, 65_536] {
+        if !protects_by(alloc, file, &records, piece, want, &due)? {
+            return Ok(false);
+        }
+    }
+    Ok(true)
 }
 
 fn done(slots: u32, rtcp: u32, cut: u32, strange: u32) -> Result<Protected, ProtectFault> {
@@ -123,211 +162,284 @@ fn done(slots: u32, rtcp: u32, cut: u32, strange: u32) -> Result<Protected, Prot
     })
 }
 
+// The records, the number of slots and of the records of each other kind, and what is given.
+const CAPTURES: &[(&[&[u8]], [u32; 4], &[Put])] = &[
+    (
+        &[],
+        [2, 0, 0, 0],
+        &[(0, 0, 1, 0, ZEROS, ZEROS), (0, 1, 2, 0, ZEROS, ZEROS)],
+    ),
+    (
+        &[FIRST],
+        [3, 0, 0, 0],
+        &[
+            (0x14, 0, 0, 0xa0, FIRST_FRAME, ZEROS),
+            (0x14, 1, 1, 0xa0, ZEROS, ZEROS),
+            (0x14, 2, 2, 0xa0, ZEROS, FIRST_FRAME),
+        ],
+    ),
+    (
+        &[OTHERS, FIRST],
+        [3, 1, 1, 1],
+        &[
+            (0x14, 0, 0, 0xa0, FIRST_FRAME, ZEROS),
+            (0x14, 1, 1, 0xa0, ZEROS, ZEROS),
+            (0x14, 2, 2, 0xa0, ZEROS, FIRST_FRAME),
+        ],
+    ),
+    (
+        &[FIRST, SECOND, OTHERS],
+        [4, 1, 1, 1],
+        &[
+            (0x14, 0, 0, 0xa0, FIRST_FRAME, ZEROS),
+            (0x28, 1, 0, 0x140, SECOND_FRAME, ZEROS),
+            (0x28, 2, 1, 0x140, ZEROS, FIRST_FRAME),
+            (0x28, 3, 2, 0x140, ZEROS, SECOND_FRAME),
+        ],
+    ),
+];
+
 #[test]
 fn protects_captures(rt: HostRuntime) -> Result<(), Fail> {
-    let alloc = rt.alloc();
-    let mut none = Vec::new(alloc);
-    push_slot(&mut none, 0, 0, 1, 0, ZEROS, ZEROS)?;
-    push_slot(&mut none, 0, 1, 2, 0, ZEROS, ZEROS)?;
-    protects(&rt, alloc, b"", done(2, 0, 0, 0), &none)?;
-
-    let mut one = Vec::new(alloc);
-    push_slot(&mut one, 0x14, 0, 0, 0xa0, FIRST_FRAME, ZEROS)?;
-    push_slot(&mut one, 0x14, 1, 1, 0xa0, ZEROS, ZEROS)?;
-    push_slot(&mut one, 0x14, 2, 2, 0xa0, ZEROS, FIRST_FRAME)?;
-    protects(&rt, alloc, FIRST, done(3, 0, 0, 0), &one)?;
-    let mut mixed = OTHERS.to_vec(alloc)?;
-    mixed.extend_from_slice(FIRST)?;
-    protects(&rt, alloc, &mixed, done(3, 1, 1, 1), &one)?;
-
-    let mut both = FIRST.to_vec(alloc)?;
-    both.extend_from_slice(SECOND)?;
-    both.extend_from_slice(OTHERS)?;
-    let mut two = Vec::new(alloc);
-    push_slot(&mut two, 0x14, 0, 0, 0xa0, FIRST_FRAME, ZEROS)?;
-    push_slot(&mut two, 0x28, 1, 0, 0x140, SECOND_FRAME, ZEROS)?;
-    push_slot(&mut two, 0x28, 2, 1, 0x140, ZEROS, FIRST_FRAME)?;
-    push_slot(&mut two, 0x28, 3, 2, 0x140, ZEROS, SECOND_FRAME)?;
-    protects(&rt, alloc, &both, done(4, 1, 1, 1), &two)
+    let file = delayed(rt.alloc(), 1)?;
+    for row in CAPTURES {
+        let (records, [slots, rtcp, cut, strange], given) = *row;
+        let want = done(slots, rtcp, cut, strange);
+        assert!(rt;
+            protects(rt.alloc(), &file, records, want, given)?,
+            "{slots} {rtcp}"
+        );
+    }
+    Ok(())
 }
+
+const SOURCE: &[Put] = &[(0x14, 0, 0, 0xa0, FIRST_FRAME, ZEROS)];
+
+// The records, the refusal, and the slots before it.
+const REFUSALS: &[(&[&[u8]], ProtectFault, &[Put])] = &[
+    (
+        &[LONGER],
+        ProtectFault::TooLong {
+            index: 0,
+            length: 13,
+        },
+        &[],
+    ),
+    (
+        &[FIRST, OTHERS, LONGER],
+        ProtectFault::TooLong {
+            index: 4,
+            length: 13,
+        },
+        SOURCE,
+    ),
+    (
+        &[FIRST, b"\x00\x14\x00\x0c\x00\x00\x00"],
+        ProtectFault::Dump(DumpFault::RecordHead(1)),
+        SOURCE,
+    ),
+    (
+        &[FIRST, b"\x00\x07\x00\x00\x00\x00\x00\x00"],
+        ProtectFault::Dump(DumpFault::RecordLength(1)),
+        SOURCE,
+    ),
+    (
+        &[
+            FIRST,
+            b"\x00\x14\x00\x0c\x00\x00\x00\x28\x80\x00\x00\x02\x00\x00\x01\x40\x12\x34\x56",
+        ],
+        ProtectFault::Dump(DumpFault::Truncated(1)),
+        SOURCE,
+    ),
+];
 
 #[test]
 fn refuses_captures(rt: HostRuntime) -> Result<(), Fail> {
-    let alloc = rt.alloc();
-    let mut source = Vec::new(alloc);
-    push_slot(&mut source, 0x14, 0, 0, 0xa0, FIRST_FRAME, ZEROS)?;
-    for (first, others, last, fault, slots) in [
-        (
-            b"".as_slice(),
-            b"".as_slice(),
-            LONGER,
-            ProtectFault::TooLong {
-                index: 0,
-                length: 13,
-            },
-            0,
-        ),
-        (
-            FIRST,
-            OTHERS,
-            LONGER,
-            ProtectFault::TooLong {
-                index: 4,
-                length: 13,
-            },
-            1,
-        ),
-        (
-            FIRST,
-            b"".as_slice(),
-            &SECOND[..7],
-            ProtectFault::Dump(DumpFault::RecordHead(1)),
-            1,
-        ),
-        (
-            FIRST,
-            b"".as_slice(),
-            b"\x00\x07\x00\x00\x00\x00\x00\x00".as_slice(),
-            ProtectFault::Dump(DumpFault::RecordLength(1)),
-            1,
-        ),
-        (
-            FIRST,
-            b"".as_slice(),
-            &SECOND[..19],
-            ProtectFault::Dump(DumpFault::Truncated(1)),
-            1,
-        ),
-    ] {
-        let mut records = first.to_vec(alloc)?;
-        records.extend_from_slice(others)?;
-        records.extend_from_slice(last)?;
-        let given = if slots == 0 { &source[..0] } else { &source };
-        protects(&rt, alloc, &records, Err(fault), given)?;
+    let file = delayed(rt.alloc(), 1)?;
+    for row in REFUSALS {
+        let (records, fault, given) = *row;
+        assert!(rt;
+            protects(rt.alloc(), &file, records, Err(fault), given)?,
+            "{fault}"
+        );
     }
     Ok(())
 }
 
-// The call that fails, by its number over reads and writes: where it stops, and how many bytes were given. The preamble is
-// read by 17 calls, and written by the next; then come the head and the body of the record, the slot, the end of the input,
-// and the two slots that flush.
+const READ: ProtectFault = ProtectFault::Dump(DumpFault::Read);
+
+// The room of the port, the call that fails, by its number over reads and writes, where it stops, and how many bytes were
+// given. The preamble is read by 17 calls, and written by the next; then come the head and the body of the record, the slot,
+// the end of the input, and the two slots that flush.
+const FAILED: &[(usize, u32, ProtectFault, usize)] = &[
+    (1000, 0, READ, 0),
+    (1000, 16, READ, 0),
+    (1000, 17, ProtectFault::Write, 0),
+    (1000, 18, READ, 44),
+    (1000, 19, READ, 44),
+    (1000, 20, ProtectFault::Write, 44),
+    (1000, 21, READ, 112),
+    (1000, 22, ProtectFault::Write, 112),
+    // no room is left in the first of the two slots that flush
+    (150, 100_000, ProtectFault::Write, 150),
+];
+
+// Whether protecting one record ends so.
+fn stops(
+    alloc: Global,
+    room: usize,
+    fail: u32,
+    fault: ProtectFault,
+    given: usize,
+) -> Result<bool, Fail> {
+    let file = delayed(alloc, 1)?;
+    let mut port = port_of(alloc, FIRST, room, 65_536, fail)?;
+    Ok(ends(alloc, &file, &mut port, Err(fault), given))
+}
+
 #[test]
 fn stops_at_failed_calls(rt: HostRuntime) -> Result<(), Fail> {
-    let alloc = rt.alloc();
-    let file = delayed(alloc, 1)?;
-    let read = ProtectFault::Dump(DumpFault::Read);
-    for (fail, fault, given) in [
-        (0, read, 0),
-        (16, read, 0),
-        (17, ProtectFault::Write, 0),
-        (18, read, 44),
-        (19, read, 44),
-        (20, ProtectFault::Write, 44),
-        (21, read, 112),
-        (22, ProtectFault::Write, 112),
-    ] {
-        let mut port = port_of(alloc, FIRST, 1000, 65_536, fail)?;
-        assert_eq!(rt;
-            protect_all(alloc, &file, 12, &mut port),
-            Err(fault),
-            "call {fail}"
-        );
-        assert_eq!(rt; port.given().len(), given, "call {fail}");
+    for row in FAILED {
+        let (room, fail, fault, given) = *row;
+        assert!(rt; stops(rt.alloc(), room, fail, fault, given)?, "call {fail}");
     }
-    // No room is left in the first of the two slots that flush.
-    let mut port = port_of(alloc, FIRST, 150, 65_536, 100_000)?;
-    assert_eq!(rt;
-        protect_all(alloc, &file, 12, &mut port),
-        Err(ProtectFault::Write)
-    );
-    assert_eq!(rt; port.given().len(), 150);
     Ok(())
 }
+
+// The first record 10,500 times, each with a timestamp of its own.
+fn many_records(alloc: Global) -> Result<Vec<u8>, NoMemory> {
+    let mut records = Vec::new(alloc);
+    for i in 0..10_500u16 {
+        records.extend_from_slice(&FIRST[..10])?;
+        records.extend_from_slice(&i.to_be_bytes())?;
+        records.extend_from_slice(&FIRST[12..])?;
+    }
+    Ok(records)
+}
+
+fn port_of_many(alloc: Global) -> Result<MemoryPort, NoMemory> {
+    let records = many_records(alloc)?;
+    port_of(alloc, &records, 1 << 20, 1 << 20, 100_000)
+}
+
+fn protects_many(alloc: Global, port: &mut MemoryPort) -> Result<bool, Fail> {
+    let file = delayed(alloc, 1)?;
+    let want = done(10_502, 0, 0, 0);
+    Ok(ends(alloc, &file, port, want, 44 + 10_502 * 68))
+}
+
+// A slot, and the numbers of the records in its block and its parity.
+const MANY: &[(usize, u16, u16)] = &[
+    (0, 0, 0),
+    (2, 2, 0),
+    (9_999, 9_999, 9_997),
+    (10_501, 0, 10_499),
+];
+
+// Whether a slot of 68 bytes in what was given has these numbers of records in its block and its parity.
+fn has_numbers(given: &[u8], slot: usize, block: u16, parity: u16) -> bool {
+    match given.chunks(68).nth(slot) {
+        Some(record) => {
+            record.len() == 68
+                && record[40..42] == block.to_be_bytes()[..]
+                && record[58..60] == parity.to_be_bytes()[..]
+        }
+        None => false,
+    }
+}
+
+// Whether the slots behind a preamble have the numbers above.
+fn have_numbers(given: &[u8]) -> bool {
+    if given.len() < 44 {
+        return false;
+    }
+    for row in MANY {
+        let (slot, block, parity) = *row;
+        if !has_numbers(&given[44..], slot, block, parity) {
+            return false;
+        }
+    }
+    true
+}
+
+// Whether the port was written so many bytes at a time.
+fn is_written_by(alloc: Global, journal: &[Move], counts: &[usize]) -> Result<bool, NoMemory> {
+    let mut written = Vec::new(alloc);
+    for step in journal {
+        if let Move::Written(n) = step {
+            written.push(*n)?;
+        }
+    }
+    Ok(written.as_slice() == counts)
+}
+
+const WRITES: &[usize] = &[44, 196_588, 196_588, 196_588, 124_236, 136];
 
 // Each slot has the frame of its own record, and the parity of the slot two before. Many go by one write.
 #[test]
 fn protects_many_records(rt: HostRuntime) -> Result<(), Fail> {
     let alloc = rt.alloc();
-    let file = delayed(alloc, 1)?;
-    let mut records = Vec::new(alloc);
-    for i in 0..10_500u16 {
-        let [high, low] = i.to_be_bytes();
-        records.extend_from_slice(&FIRST[..10])?;
-        records.extend_from_slice(&[high, low])?;
-        records.extend_from_slice(&FIRST[12..])?;
-    }
-    let mut port = port_of(alloc, &records, 1 << 20, 1 << 20, 100_000)?;
-    assert_eq!(rt;
-        protect_all(alloc, &file, 12, &mut port),
-        done(10_502, 0, 0, 0)
-    );
-    assert_eq!(rt; port.given().len(), 44 + 10_502 * 68);
-    for (slot, block, parity) in [
-        (0, 0, 0),
-        (2, 2, 0),
-        (9_999, 9_999, 9_997),
-        (10_501, 0, 10_499),
-    ] {
-        let record = &port.given()[44 + slot * 68..];
-        assert_eq!(rt; record[40..42], u16::to_be_bytes(block)[..], "slot {slot}");
-        assert_eq!(rt; record[58..60], u16::to_be_bytes(parity)[..], "slot {slot}");
-    }
-    let mut written = Vec::new(alloc);
-    for step in port.journal() {
-        if let Move::Written(n) = step {
-            written.push(*n)?;
-        }
-    }
-    assert_eq!(rt;
-        written.as_slice(),
-        [44, 196_588, 196_588, 196_588, 124_236, 136].as_slice()
-    );
+    let mut port = port_of_many(alloc)?;
+    assert!(rt; protects_many(alloc, &mut port)?);
+    assert!(rt; have_numbers(port.given()));
+    assert!(rt; is_written_by(alloc, port.journal(), WRITES)?);
     Ok(())
+}
+
+// A port with a record of the greatest size.
+fn port_of_greatest(alloc: Global) -> Result<MemoryPort, NoMemory> {
+    let mut record = b"\x05\xc8\x05\xc0\x00\x00\x00\x00\x80\x00".to_vec(alloc)?;
+    record.resize(1480, 0)?;
+    port_of(alloc, &record, 1 << 18, 65_536, 100_000)
+}
+
+// Protects packets of the greatest size by the code above with so many parities.
+fn protects_greatest(
+    alloc: Global,
+    r: usize,
+    port: &mut MemoryPort,
+) -> Result<Result<Protected, ProtectFault>, Fail>
+    requires { (1 ≤ r) × (r < 64) }
+{
+    let file = delayed(alloc, r)?;
+    Ok(protect_all(alloc, &file, 1472, port))
 }
 
 // The greatest size: with 43 parities of a symbol a protected packet has 65,056 bytes, and with 63 it would have 94,616.
 #[test]
 fn refuses_wide_packets(rt: HostRuntime) -> Result<(), Fail> {
-    let alloc = rt.alloc();
-    let mut record = b"\x05\xc8\x05\xc0\x00\x00\x00\x00\x80\x00".to_vec(alloc)?;
-    record.resize(1480, 0)?;
-    let mut port = port_of(alloc, &record, 1 << 18, 65_536, 100_000)?;
-    let wide = delayed(alloc, 63)?;
-    assert_eq!(rt;
-        protect_all(alloc, &wide, 1472, &mut port),
-        Err(ProtectFault::TooWide(94_616))
-    );
-    assert!(rt; port.journal().is_empty());
-    let file = delayed(alloc, 43)?;
-    assert_eq!(rt;
-        protect_all(alloc, &file, 1472, &mut port),
-        done(3, 0, 0, 0)
-    );
-    assert_eq!(rt; port.given().len(), 44 + 3 * 65_064);
+    let mut port = port_of_greatest(rt.alloc())?;
+    let wide = protects_greatest(rt.alloc(), 63, &mut port)?;
+    assert!(rt; wide == Err(ProtectFault::TooWide(94_616)) && port.journal().is_empty());
+    let greatest = protects_greatest(rt.alloc(), 43, &mut port)?;
+    assert!(rt; greatest == done(3, 0, 0, 0) && port.given().len() == 44 + 3 * 65_064);
     protecting_is_a_job();
     protected_is_a_capture();
     Ok(())
 }
 
+const PRINTED: &[(ProtectFault, &str)] = &[
+    (ProtectFault::TooWide(65_528), "packet 65528"),
+    (ProtectFault::Dump(DumpFault::Preamble), "preamble"),
+    (ProtectFault::TooManyRecords, "more than 8000000 records"),
+    (
+        ProtectFault::TooLong {
+            index: 3,
+            length: 13,
+        },
+        "record 3 packet 13",
+    ),
+    (ProtectFault::TooManySlots, "more than 4000000 slots"),
+    (ProtectFault::Write, "write fault"),
+    (ProtectFault::Memory, "no memory"),
+];
+
 #[test]
 fn prints_faults(rt: HostRuntime) -> Result<(), Fail> {
-    for (fault, want) in [
-        (ProtectFault::TooWide(65_528), "packet 65528"),
-        (ProtectFault::Dump(DumpFault::Preamble), "preamble"),
-        (ProtectFault::TooManyRecords, "more than 8000000 records"),
-        (
-            ProtectFault::TooLong {
-                index: 3,
-                length: 13,
-            },
-            "record 3 packet 13",
-        ),
-        (ProtectFault::TooManySlots, "more than 4000000 slots"),
-        (ProtectFault::Write, "write fault"),
-        (ProtectFault::Memory, "no memory"),
-    ] {
+    for row in PRINTED {
+        let (fault, want) = *row;
         let printed = format!(in rt.alloc(); "{fault}")?;
-        assert_eq!(rt; printed.as_str(), want);
+        assert!(rt; printed.as_str() == want, "{want}");
     }
     Ok(())
 }
