@@ -23,7 +23,18 @@ fn repeats(alloc: Global) -> Result<ByteCode, Fail>
     Ok(Code::new(1, 1, lags)?)
 }
 
-// Writes what is put out: for each slot its number and its byte, or 255 where it is missed.
+// The number of a slot that is put out, and its byte, or 255 where it is missed.
+fn told(repairer: &Repairer, put: Put) -> [u8; 2] {
+    match put {
+        Put::Block(slot) => {
+            let byte = repairer.block().first().copied().unwrap_or(254);
+            [(slot % 256) as u8, byte]
+        }
+        Put::Missed(slot) => [(slot % 256) as u8, 255],
+    }
+}
+
+// Writes what is put out.
 fn drain(repairer: &mut Repairer, out: &mut Vec<u8>) -> Result<(), Fail>
     ensures same { repairer.new ≡ record repairer.old { next = repairer.new.next; block = repairer.new.block } }
     ensures in_time { OnOk result (repairer.old.finished ≡ false → repairer.new.passed ≤ repairer.new.next + repairer.new.deadline) }
@@ -31,15 +42,7 @@ fn drain(repairer: &mut Repairer, out: &mut Vec<u8>) -> Result<(), Fail>
     for _turn in 0..200 {
         match repairer.next_out() {
             None => return Ok(()),
-            Some(Put::Block(slot)) => {
-                out.push((slot % 256) as u8)?;
-                let byte = repairer.block().first().copied().unwrap_or(254);
-                out.push(byte)?;
-            }
-            Some(Put::Missed(slot)) => {
-                out.push((slot % 256) as u8)?;
-                out.push(255)?;
-            }
+            Some(put) => out.extend_from_slice(&told(repairer, put))?,
         }
     }
     Err("no end")?
@@ -97,98 +100,122 @@ fn step(
     Ok(true)
 }
 
+// Writes what is left, and the known end.
+fn finish(repairer: &mut Repairer, out: &mut Vec<u8>) -> Result<(), Fail> {
+    let end = repairer.finish();
+    drain(repairer, out)?;
+    out.push((end % 256) as u8)?;
+    Ok(())
+}
+
+// Passes or takes each slot, and finishes. False at the first that doesn't fit or clashes.
+fn steps(
+    repairer: &mut Repairer,
+    code: &ByteCode,
+    slots: &[Came],
+    out: &mut Vec<u8>,
+) -> Result<bool, Fail>
+    requires code { (code.now.k ≡ 1) × (code.now.r ≡ 1) × (length code.now.lags ≡ 3) }
+    requires ready { (repairer.old.k ≡ 1) × (repairer.old.r ≡ 1) × (repairer.old.memory ≡ 2) × (repairer.old.m ≡ 1) }
+    requires goes_on { (repairer.old.finished ≡ false) × (repairer.old.passed ≤ repairer.old.next + repairer.old.deadline) }
+{
+    for came in slots {
+        if !step(repairer, code, *came, out)? {
+            return Ok(false);
+        }
+    }
+    finish(repairer, out)?;
+    Ok(true)
+}
+
 // What is put out of these slots, and then the known end; or what is put out until one doesn't fit.
 fn run(alloc: Global, slots: &[Came]) -> Result<(bool, Vec<u8>), Fail> {
     let code = repeats(alloc)?;
     let mut repairer = Repairer::start(alloc, &code, 2, 1)?;
     let mut out = Vec::new(alloc);
-    for came in slots {
-        if !step(&mut repairer, &code, *came, &mut out)? {
-            return Ok((false, out));
-        }
-    }
-    let end = repairer.finish();
-    drain(&mut repairer, &mut out)?;
-    out.push((end % 256) as u8)?;
-    Ok((true, out))
+    let whole = steps(&mut repairer, &code, slots, &mut out)?;
+    Ok((whole, out))
 }
+
+// Slots, whether all are taken, and what is put out.
+const RUNS: &[(&[Came], bool, &[u8])] = &[
+    // nothing at all
+    (&[], true, &[0]),
+    // one packet and its two flush slots; then without slot 0, and without slots 0 and 1: the lost flush slot is passed over
+    (
+        &[
+            Came::Slot(0, 7, 0),
+            Came::Slot(1, 0, 0),
+            Came::Slot(2, 0, 7),
+        ],
+        true,
+        &[0, 7, 1, 0, 2, 0, 1],
+    ),
+    (
+        &[Came::Lost, Came::Slot(1, 0, 0), Came::Slot(2, 0, 7)],
+        true,
+        &[0, 7, 1, 0, 2, 0, 1],
+    ),
+    (
+        &[Came::Lost, Came::Lost, Came::Slot(2, 0, 7)],
+        true,
+        &[0, 7, 2, 0, 1],
+    ),
+    // without slots 0 and 2: the block isn't determined
+    (&[Came::Lost, Came::Slot(1, 0, 0)], true, &[0, 255, 1, 0, 1]),
+    // a changed parity of a known block, and one before slot 0
+    (
+        &[
+            Came::Slot(0, 7, 0),
+            Came::Slot(0, 8, 0),
+            Came::Slot(0, 9, 6),
+        ],
+        false,
+        &[0, 7, 1, 8],
+    ),
+    (&[Came::Slot(0, 7, 1)], false, &[]),
+    // a source slot after a claim, another claim, and one below a source slot
+    (
+        &[
+            Came::Slot(0, 7, 0),
+            Came::Slot(1, 0, 0),
+            Came::Slot(0, 9, 7),
+        ],
+        false,
+        &[0, 7, 1, 0],
+    ),
+    (
+        &[
+            Came::Slot(0, 7, 0),
+            Came::Slot(1, 0, 0),
+            Came::Slot(1, 0, 7),
+        ],
+        false,
+        &[0, 7, 1, 0],
+    ),
+    (&[Came::Slot(0, 7, 0), Came::Slot(2, 0, 0)], false, &[0, 7]),
+    // a gap that is too long: two blocks are missed, and the last of it comes back by the deadline
+    (
+        &[
+            Came::Slot(0, 7, 0),
+            Came::Lost,
+            Came::Lost,
+            Came::Lost,
+            Came::Lost,
+            Came::Slot(0, 5, 3),
+            Came::Slot(0, 6, 4),
+        ],
+        true,
+        &[0, 7, 1, 255, 2, 255, 3, 3, 4, 4, 5, 5, 6, 6, 7],
+    ),
+];
 
 #[test]
 fn worked_runs(rt: HostRuntime) -> Result<(), Fail> {
-    for (slots, whole, want) in [
-        // nothing at all
-        (&[][..], true, &[0][..]),
-        // one packet and its two flush slots; then without slot 0, and without slots 0 and 1: the lost flush slot is passed over
-        (
-            &[
-                Came::Slot(0, 7, 0),
-                Came::Slot(1, 0, 0),
-                Came::Slot(2, 0, 7),
-            ],
-            true,
-            &[0, 7, 1, 0, 2, 0, 1],
-        ),
-        (
-            &[Came::Lost, Came::Slot(1, 0, 0), Came::Slot(2, 0, 7)],
-            true,
-            &[0, 7, 1, 0, 2, 0, 1],
-        ),
-        (
-            &[Came::Lost, Came::Lost, Came::Slot(2, 0, 7)],
-            true,
-            &[0, 7, 2, 0, 1],
-        ),
-        // without slots 0 and 2: the block isn't determined
-        (&[Came::Lost, Came::Slot(1, 0, 0)], true, &[0, 255, 1, 0, 1]),
-        // a changed parity of a known block, and one before slot 0
-        (
-            &[
-                Came::Slot(0, 7, 0),
-                Came::Slot(0, 8, 0),
-                Came::Slot(0, 9, 6),
-            ],
-            false,
-            &[0, 7, 1, 8],
-        ),
-        (&[Came::Slot(0, 7, 1)], false, &[]),
-        // a source slot after a claim, another claim, and one below a source slot
-        (
-            &[
-                Came::Slot(0, 7, 0),
-                Came::Slot(1, 0, 0),
-                Came::Slot(0, 9, 7),
-            ],
-            false,
-            &[0, 7, 1, 0],
-        ),
-        (
-            &[
-                Came::Slot(0, 7, 0),
-                Came::Slot(1, 0, 0),
-                Came::Slot(1, 0, 7),
-            ],
-            false,
-            &[0, 7, 1, 0],
-        ),
-        (&[Came::Slot(0, 7, 0), Came::Slot(2, 0, 0)], false, &[0, 7]),
-        // a gap that is too long: two blocks are missed, and the last of it comes back by the deadline
-        (
-            &[
-                Came::Slot(0, 7, 0),
-                Came::Lost,
-                Came::Lost,
-                Came::Lost,
-                Came::Lost,
-                Came::Slot(0, 5, 3),
-                Came::Slot(0, 6, 4),
-            ],
-            true,
-            &[0, 7, 1, 255, 2, 255, 3, 3, 4, 4, 5, 5, 6, 6, 7],
-        ),
-    ] {
+    for row in RUNS {
+        let (slots, whole, want) = *row;
         let (have, out) = run(rt.alloc(), slots)?;
-        assert_eq!(rt; have, whole);
-        assert_eq!(rt; out.as_slice(), want);
+        assert_eq!(rt; (have, out.as_slice()), (whole, want));
     }
     Ok(())
 }

@@ -1,5 +1,5 @@
 //! Whole runs over objects in memory. What is wanted is written out by hand from the format.
-ghost use Rattle.std.specs.Prelude.{◌≤◌};
+ghost use Rattle.std.specs.Prelude.{◌<◌, ◌≤◌};
 
 mod checking;
 mod designing;
@@ -144,7 +144,34 @@ fn answer_of<R: Threads + Sync>(
     answer_by(rt, alloc, line, &mut cabinet, input, room, fail)
 }
 
-/// The same in pieces of this length, with room for two million bytes.
+/// The same with this text in the file `c`.
+fn answer_with<R: Threads + Sync>(
+    rt: &R,
+    alloc: Global,
+    line: &str,
+    text: &[u8],
+    input: &[&[u8]],
+    room: usize,
+    fail: u32,
+) -> Result<Answer, Fail> {
+    let mut cabinet = one_file(alloc, "c", text)?;
+    answer_by(rt, alloc, line, &mut cabinet, input, room, fail)
+}
+
+/// The same with these texts in the files `c` and `d`, with room for a thousand bytes, where no call fails.
+fn answer_with_both<R: Threads + Sync>(
+    rt: &R,
+    alloc: Global,
+    line: &str,
+    first: &[u8],
+    second: &[u8],
+    input: &[&[u8]],
+) -> Result<Answer, Fail> {
+    let mut cabinet = two_files(alloc, first, second)?;
+    answer_by(rt, alloc, line, &mut cabinet, input, 1000, 1000)
+}
+
+/// Runs the words of a line over an input in pieces of this length, with files and room for two million bytes.
 fn answer_in_pieces<R: Threads + Sync>(
     rt: &R,
     alloc: Global,
@@ -162,7 +189,13 @@ fn answer_in_pieces<R: Threads + Sync>(
     answer_over(rt, alloc, line, cabinet, port, &NoGate)
 }
 
-/// A run ended with this status, gave these bytes, and told this note.
+/// A run ended with this status, and told this note.
+fn assert_told(rt: &impl Abort, line: &str, answer: &Answer, status: u8, note: &str) {
+    assert_eq!(rt; answer.status, status, "{line} {note}");
+    assert_eq!(rt; answer.note.as_slice(), note.as_bytes(), "{line}");
+}
+
+/// The same, and it gave these bytes.
 fn assert_answer(
     rt: &impl Abort,
     line: &str,
@@ -171,9 +204,8 @@ fn assert_answer(
     given: &[u8],
     note: &str,
 ) {
-    assert_eq!(rt; answer.status, status, "{line} {note}");
+    assert_told(rt, line, answer, status, note);
     assert_eq!(rt; answer.given.as_slice(), given, "{line} {note}");
-    assert_eq!(rt; answer.note.as_slice(), note.as_bytes(), "{line}");
 }
 
 /// A run ended with this status and this note, and neither read nor gave anything.
@@ -191,8 +223,7 @@ fn assert_cut(
     whole: &[u8],
     given: usize,
 ) {
-    assert_eq!(rt; answer.status, status, "{given} {note}");
-    assert_eq!(rt; answer.note.as_slice(), note.as_bytes(), "{given}");
+    assert_told(rt, "", answer, status, note);
     assert!(rt;
         whole.starts_with(answer.given.as_slice()),
         "{given} {note}"
@@ -200,7 +231,22 @@ fn assert_cut(
     assert_eq!(rt; answer.given.len(), given, "{note}");
 }
 
-/// An end has this status and this note.
+/// The status of an end, and its note in a sink with this room.
+fn concluded(alloc: Global, end: End, room: usize) -> Result<(u8, Vec<u8>), Fail> {
+    let mut notes = MemorySink::new(alloc, room, Vec::new(alloc))?;
+    let status = conclude(&mut notes, end);
+    let note = joined(alloc, &[notes.given()])?;
+    Ok((status, note))
+}
+
+/// The fault of a capture prints its note.
+fn assert_prints(rt: &impl Abort, alloc: Global, fault: DumpFault, note: &str) -> Result<(), Fail> {
+    let printed = format!(in alloc; "{fault}\n")?;
+    assert_eq!(rt; printed.as_str(), note);
+    Ok(())
+}
+
+/// An end has this status and this note. A sink with less room gets the beginning, and the status stays.
 fn assert_ends(
     rt: &impl Abort,
     alloc: Global,
@@ -208,20 +254,14 @@ fn assert_ends(
     status: u8,
     note: &str,
 ) -> Result<(), Fail> {
-    let mut notes = MemorySink::new(alloc, 128, Vec::new(alloc))?;
-    assert_eq!(rt; conclude(&mut notes, end), status, "{note}");
-    assert_eq!(rt; notes.given(), note.as_bytes());
-    // A sink with less room gets the beginning, and the status stays.
-    let mut short = MemorySink::new(alloc, 3, Vec::new(alloc))?;
-    assert_eq!(rt; conclude(&mut short, end), status, "{note}");
-    assert!(rt;
-        note.as_bytes().starts_with(short.given()) && short.given().len() == 3,
-        "{note}"
-    );
-    // The fault of a capture prints its note.
+    let due = note.as_bytes();
+    for (room, length) in [(128, due.len()), (3, 3)] {
+        let (ended, given) = concluded(alloc, end, room)?;
+        assert_eq!(rt; ended, status, "{note}");
+        assert_eq!(rt; given.as_slice(), part(due, 0, length), "{note}");
+    }
     if let End::Capture(fault) = end {
-        let printed = format!(in alloc; "{fault}\n")?;
-        assert_eq!(rt; printed.as_str(), note);
+        assert_prints(rt, alloc, fault, note)?;
     }
     Ok(())
 }
@@ -381,74 +421,81 @@ const DRAWN_WIDE: &[u8] =
 const DRAWN_WIDEST: &[u8] =
     b"\x00\x16\x00\x0e\x00\x00\x00\x00\x80\x00\x00\x00\x00\x00\x00\x00\x12\x34\x56\x78\x77\x72\x00\x16\x00\x0e\x00\x00\x00\x14\x80\x00\x00\x01\x00\x00\x00\xa0\x12\x34\x56\x78\xba\x21";
 
+const GENERATED: &[(&str, u8, &[&[u8]], &str)] = &[
+    ("gen 42 1 16", 0, &[PREAMBLE, DRAWN_42], "records 1\n"),
+    ("gen 42 0 12", 0, &[PREAMBLE], "records 0\n"),
+    ("gen 2 2 14", 0, &[PREAMBLE, DRAWN_2], "records 2\n"),
+    (
+        "gen 4294967298 2 14",
+        0,
+        &[PREAMBLE, DRAWN_WIDE],
+        "records 2\n",
+    ),
+    (
+        "gen 18446744073709551615 2 14",
+        0,
+        &[PREAMBLE, DRAWN_WIDEST],
+        "records 2\n",
+    ),
+    ("gen 18446744073709551616 2 14", 2, &[], "usage\n"),
+    ("gen 42 1 11", 2, &[], "usage\n"),
+    ("gen 042 1 16", 2, &[], "usage\n"),
+];
+
 #[test]
 fn gen_generates_and_refuses(rt: HostRuntime) -> Result<(), Fail> {
-    let nothing: &[&[u8]] = &[];
-    let none: &[&[u8]] = &[PREAMBLE];
-    let first: &[&[u8]] = &[PREAMBLE, DRAWN_42];
-    let pair: &[&[u8]] = &[PREAMBLE, DRAWN_2];
-    let wide_pair: &[&[u8]] = &[PREAMBLE, DRAWN_WIDE];
-    let widest_pair: &[&[u8]] = &[PREAMBLE, DRAWN_WIDEST];
-    // The input isn't read.
-    let input: &[&[u8]] = &[SHORT];
-    for (line, status, given, note) in [
-        ("gen 42 1 16", 0, first, "records 1\n"),
-        ("gen 42 0 12", 0, none, "records 0\n"),
-        ("gen 2 2 14", 0, pair, "records 2\n"),
-        ("gen 4294967298 2 14", 0, wide_pair, "records 2\n"),
-        (
-            "gen 18446744073709551615 2 14",
-            0,
-            widest_pair,
-            "records 2\n",
-        ),
-        ("gen 18446744073709551616 2 14", 2, nothing, "usage\n"),
-        ("gen 42 1 11", 2, nothing, "usage\n"),
-        ("gen 042 1 16", 2, nothing, "usage\n"),
-    ] {
-        let answer = answer_of(&rt, rt.alloc(), line, input, 1000, 1000)?;
+    for row in GENERATED {
+        let (line, status, given, note) = *row;
+        // The input isn't read.
+        let answer = answer_of(&rt, rt.alloc(), line, &[SHORT], 1000, 1000)?;
         let given = joined(rt.alloc(), given)?;
         assert_answer(&rt, line, &answer, status, &given, note);
     }
     Ok(())
 }
 
+// In pieces of 7 bytes, each call writes one.
+const FAILED_WRITES: &[(usize, u32, usize)] = &[
+    (1000, 0, 0),
+    (1000, 3, 21),
+    (1000, 9, 63),
+    (50, 1000, 50),
+    (0, 1000, 0),
+];
+
 #[test]
 fn gen_stops_at_a_failed_write(rt: HostRuntime) -> Result<(), Fail> {
-    let nothing: &[&[u8]] = &[];
     let whole = joined(rt.alloc(), &[PREAMBLE, DRAWN_42])?;
-    // In pieces of 7 bytes, each call writes one.
-    for (room, fail, given) in [
-        (1000, 0, 0),
-        (1000, 3, 21),
-        (1000, 9, 63),
-        (50, 1000, 50),
-        (0, 1000, 0),
-    ] {
-        let answer = answer_of(&rt, rt.alloc(), "gen 42 1 16", nothing, room, fail)?;
+    for row in FAILED_WRITES {
+        let (room, fail, given) = *row;
+        let answer = answer_of(&rt, rt.alloc(), "gen 42 1 16", &[], room, fail)?;
         assert_cut(&rt, &answer, 8, "write fault\n", &whole, given);
     }
     Ok(())
 }
 
+const LAST_THREE: &[u8] =
+    b"\x00\x14\x00\x0c\x00\x13\xff\xec\x80\x00\xff\xff\x00\x9f\xff\x60\x12\x34\x56\x78\x00\x14\x00\x0c\x00\x14\x00\x00\x80\x00\x00\x00\x00\xa0\x00\x00\x12\x34\x56\x78\x00\x14\x00\x0c\x00\x14\x00\x14\x80\x00\x00\x01\x00\xa0\x00\xa0\x12\x34\x56\x78";
+
+const MANY: &[(u32, u8, usize, &str)] = &[
+    (1000, 0, 1_310_804, "records 65538\n"),
+    // Three pieces are the first block, of 44 bytes and 9,828 records.
+    (4, 8, 196_604 + 65_536, "write fault\n"),
+];
+
 // The sequence number has 16 bits. What waits is written in blocks of at most 196,608 bytes.
 #[test]
 fn generates_many_records(rt: HostRuntime) -> Result<(), Fail> {
-    let last: &[u8] =
-        b"\x00\x14\x00\x0c\x00\x13\xff\xec\x80\x00\xff\xff\x00\x9f\xff\x60\x12\x34\x56\x78\x00\x14\x00\x0c\x00\x14\x00\x00\x80\x00\x00\x00\x00\xa0\x00\x00\x12\x34\x56\x78\x00\x14\x00\x0c\x00\x14\x00\x14\x80\x00\x00\x01\x00\xa0\x00\xa0\x12\x34\x56\x78";
-    for (fail, status, given, note) in [
-        (1000, 0, 1_310_804, "records 65538\n"),
-        // Three pieces are the first block, of 44 bytes and 9,828 records.
-        (4, 8, 196_604 + 65_536, "write fault\n"),
-    ] {
+    for row in MANY {
+        let (fail, status, length, note) = *row;
         let mut cabinet = no_files(rt.alloc());
         let line = "gen 1 65538 12";
         let answer = answer_in_pieces(&rt, rt.alloc(), line, &mut cabinet, b"", 65_536, fail)?;
-        assert_eq!(rt; answer.status, status);
-        assert_eq!(rt; answer.given.len(), given);
-        assert!(rt; answer.given.as_slice().starts_with(PREAMBLE));
-        assert_eq!(rt; answer.given.as_slice().ends_with(last), status == 0);
-        assert_eq!(rt; answer.note.as_slice(), note.as_bytes());
+        assert_told(&rt, line, &answer, status, note);
+        let given = answer.given.as_slice();
+        assert_eq!(rt; given.len(), length);
+        let ends = (given.starts_with(PREAMBLE), given.ends_with(LAST_THREE));
+        assert_eq!(rt; ends, (true, status == 0));
     }
     Ok(())
 }
@@ -488,33 +535,52 @@ const OTHERS: &[u8] = b"\x00\x0c\x00\x00\x00\x00\x00\x00\x80\xc9\x00\x00\
 const LONGER: &[u8] =
     b"\x00\x15\x00\x0d\x00\x00\x00\x14\x80\x00\x00\x01\x00\x00\x00\xa0\x12\x34\x56\x78\xff";
 
+// The protected packet.
+const ALL: &[&[u8]] = &[
+    PREAMBLE, SLOT_0, FRAME, ZEROS, SLOT_1, ZEROS, ZEROS, SLOT_2, ZEROS, FRAME,
+];
+
+const PROTECTS: &[(&[&[u8]], u8, &[&[u8]], &str)] = &[
+    (
+        &[PREAMBLE],
+        0,
+        &[PREAMBLE, EMPTY_0, ZEROS, ZEROS, EMPTY_1, ZEROS, ZEROS],
+        "slots 2 rtcp 0 cut 0 strange 0\n",
+    ),
+    (
+        &[PREAMBLE, PACKET],
+        0,
+        ALL,
+        "slots 3 rtcp 0 cut 0 strange 0\n",
+    ),
+    (
+        &[PREAMBLE, OTHERS, PACKET],
+        0,
+        ALL,
+        "slots 3 rtcp 1 cut 1 strange 1\n",
+    ),
+    (&[PREAMBLE, LONGER], 4, &[PREAMBLE], "limit size 0 13\n"),
+    (
+        &[PREAMBLE, OTHERS, PACKET, LONGER],
+        4,
+        &[PREAMBLE, SLOT_0, FRAME, ZEROS],
+        "limit size 4 13\n",
+    ),
+    (
+        &[PREAMBLE, PACKET, HEAD],
+        3,
+        &[PREAMBLE, SLOT_0, FRAME, ZEROS],
+        "record 1 cut\n",
+    ),
+    (&[SHORT], 3, &[], "preamble\n"),
+];
+
 #[test]
 fn protect_protects_and_refuses(rt: HostRuntime) -> Result<(), Fail> {
-    let empty: &[&[u8]] = &[PREAMBLE];
-    let one: &[&[u8]] = &[PREAMBLE, PACKET];
-    let mixed: &[&[u8]] = &[PREAMBLE, OTHERS, PACKET];
-    let longer: &[&[u8]] = &[PREAMBLE, LONGER];
-    let behind: &[&[u8]] = &[PREAMBLE, OTHERS, PACKET, LONGER];
-    let cut: &[&[u8]] = &[PREAMBLE, PACKET, HEAD];
-    let bare: &[&[u8]] = &[SHORT];
-    let nothing: &[&[u8]] = &[];
-    let flushed: &[&[u8]] = &[PREAMBLE, EMPTY_0, ZEROS, ZEROS, EMPTY_1, ZEROS, ZEROS];
-    let source: &[&[u8]] = &[PREAMBLE, SLOT_0, FRAME, ZEROS];
-    let all: &[&[u8]] = &[
-        PREAMBLE, SLOT_0, FRAME, ZEROS, SLOT_1, ZEROS, ZEROS, SLOT_2, ZEROS, FRAME,
-    ];
-    for (input, status, given, note) in [
-        (empty, 0, flushed, "slots 2 rtcp 0 cut 0 strange 0\n"),
-        (one, 0, all, "slots 3 rtcp 0 cut 0 strange 0\n"),
-        (mixed, 0, all, "slots 3 rtcp 1 cut 1 strange 1\n"),
-        (longer, 4, empty, "limit size 0 13\n"),
-        (behind, 4, source, "limit size 4 13\n"),
-        (cut, 3, source, "record 1 cut\n"),
-        (bare, 3, nothing, "preamble\n"),
-    ] {
-        let mut cabinet = one_file(rt.alloc(), "code.json", CODE)?;
-        let line = "protect code.json 12";
-        let answer = answer_by(&rt, rt.alloc(), line, &mut cabinet, input, 1000, 1000)?;
+    for row in PROTECTS {
+        let (input, status, given, note) = *row;
+        let line = "protect c 12";
+        let answer = answer_with(&rt, rt.alloc(), line, CODE, input, 1000, 1000)?;
         let given = joined(rt.alloc(), given)?;
         assert_answer(&rt, line, &answer, status, &given, note);
     }
@@ -531,64 +597,118 @@ fn wide_code(alloc: Global) -> Result<Vec<u8>, AllocError> {
     Ok(text)
 }
 
-// What the words and the file decide: nothing is read or given.
-#[test]
-fn protect_judges_its_file(rt: HostRuntime) -> Result<(), Fail> {
-    let input: &[&[u8]] = &[PREAMBLE, PACKET];
-    let long = vec![in rt.alloc(); b' '; 4_194_305]?;
-    let wide = wide_code(rt.alloc())?;
-    for (line, text, status, note) in [
-        ("protect code.json 1473", CODE, 2, "usage\n"),
-        ("protect code.json 11", CODE, 2, "usage\n"),
-        ("protect other.json 12", CODE, 7, "read fault\n"),
-        ("protect code.json 12", b"{", 3, "code not json\n"),
-        (
-            "protect code.json 12",
-            b"{\"k\":1}",
-            3,
-            "code shape channel\n",
-        ),
-        ("protect code.json 12", b"[]", 3, "code shape whole\n"),
-        ("protect code.json 12", &long[1..], 3, "code not json\n"),
-        ("protect code.json 12", &long, 4, "code limit 4194305\n"),
-        ("protect code.json 1472", &wide, 4, "limit packet 94616\n"),
-    ] {
-        let mut cabinet = one_file(rt.alloc(), "code.json", text)?;
-        let answer = answer_by(&rt, rt.alloc(), line, &mut cabinet, input, 1000, 1000)?;
-        assert_untouched(&rt, line, &answer, status, note);
-    }
+/// With a file of this name and text a line ends with this status and note, and nothing is read or given.
+fn judges<R: Threads + Sync + Abort>(
+    rt: &R,
+    alloc: Global,
+    line: &str,
+    name: &str,
+    text: &[u8],
+    status: u8,
+    note: &str,
+) -> Result<(), Fail> {
+    let mut cabinet = one_file(alloc, name, text)?;
+    let answer = answer_by(
+        rt,
+        alloc,
+        line,
+        &mut cabinet,
+        &[PREAMBLE, PACKET],
+        1000,
+        1000,
+    )?;
+    assert_untouched(rt, line, &answer, status, note);
     Ok(())
 }
 
+fn spaces(alloc: Global, count: usize) -> Result<Vec<u8>, AllocError> {
+    vec![in alloc; b' '; count]
+}
+
+const JUDGED: &[(&str, &[u8], u8, &str)] = &[
+    ("protect code.json 1473", CODE, 2, "usage\n"),
+    ("protect code.json 11", CODE, 2, "usage\n"),
+    ("protect other.json 12", CODE, 7, "read fault\n"),
+    ("protect code.json 12", b"{", 3, "code not json\n"),
+    (
+        "protect code.json 12",
+        b"{\"k\":1}",
+        3,
+        "code shape channel\n",
+    ),
+    ("protect code.json 12", b"[]", 3, "code shape whole\n"),
+];
+
+// What the words and the file decide: nothing is read or given.
+#[test]
+fn protect_judges_its_file(rt: HostRuntime) -> Result<(), Fail> {
+    let alloc = rt.alloc();
+    for row in JUDGED {
+        let (line, text, status, note) = *row;
+        judges(&rt, alloc, line, "code.json", text, status, note)?;
+    }
+    let line = "protect code.json 12";
+    let full = spaces(alloc, 4_194_304)?;
+    judges(&rt, alloc, line, "code.json", &full, 3, "code not json\n")?;
+    let long = spaces(alloc, 4_194_305)?;
+    judges(
+        &rt,
+        alloc,
+        line,
+        "code.json",
+        &long,
+        4,
+        "code limit 4194305\n",
+    )?;
+    let line = "protect code.json 1472";
+    let wide = wide_code(alloc)?;
+    judges(
+        &rt,
+        alloc,
+        line,
+        "code.json",
+        &wide,
+        4,
+        "limit packet 94616\n",
+    )
+}
+
+/// Where the fetch of `c` fails, a line ends with a read fault, and nothing is read or given.
+fn stops_at_a_failed_fetch<R: Threads + Sync + Abort>(
+    rt: &R,
+    alloc: Global,
+    line: &str,
+    input: &[&[u8]],
+) -> Result<(), Fail> {
+    let fails = vec![in alloc; 0]?;
+    let mut failing = failing_files(alloc, CODE, b"", fails)?;
+    let answer = answer_by(rt, alloc, line, &mut failing, input, 1000, 1000)?;
+    assert_untouched(rt, line, &answer, 7, "read fault\n");
+    Ok(())
+}
+
+// 27 calls copy the preamble, 4 read the packet, and one finds the end; the slots are written last.
+const PROTECT_FAULTS: &[(usize, u32, u8, &str, usize)] = &[
+    (1000, 0, 7, "read fault\n", 0),
+    (1000, 20, 8, "write fault\n", 0),
+    (1000, 26, 8, "write fault\n", 42),
+    (1000, 27, 7, "read fault\n", 44),
+    (1000, 30, 7, "read fault\n", 44),
+    (44 + 100, 1000, 8, "write fault\n", 144),
+    (0, 1000, 8, "write fault\n", 0),
+];
+
 #[test]
 fn faults_of_protect_are_told(rt: HostRuntime) -> Result<(), Fail> {
-    let input: &[&[u8]] = &[PREAMBLE, PACKET];
-    let whole = joined(
-        rt.alloc(),
-        &[
-            PREAMBLE, SLOT_0, FRAME, ZEROS, SLOT_1, ZEROS, ZEROS, SLOT_2, ZEROS, FRAME,
-        ],
-    )?;
-    // 27 calls copy the preamble, 4 read the packet, and one finds the end; the slots are written last.
+    let whole = joined(rt.alloc(), ALL)?;
     let line = "protect c 12";
-    for (room, fail, status, note, given) in [
-        (1000, 0, 7, "read fault\n", 0),
-        (1000, 20, 8, "write fault\n", 0),
-        (1000, 26, 8, "write fault\n", 42),
-        (1000, 27, 7, "read fault\n", 44),
-        (1000, 30, 7, "read fault\n", 44),
-        (44 + 100, 1000, 8, "write fault\n", 144),
-        (0, 1000, 8, "write fault\n", 0),
-    ] {
-        let mut cabinet = one_file(rt.alloc(), "c", CODE)?;
-        let answer = answer_by(&rt, rt.alloc(), line, &mut cabinet, input, room, fail)?;
+    let input: &[&[u8]] = &[PREAMBLE, PACKET];
+    for row in PROTECT_FAULTS {
+        let (room, fail, status, note, given) = *row;
+        let answer = answer_with(&rt, rt.alloc(), line, CODE, input, room, fail)?;
         assert_cut(&rt, &answer, status, note, &whole, given);
     }
-    let fails = vec![in rt.alloc(); 0]?;
-    let mut failing = MemoryCabinet::new(Vec::new(rt.alloc()), fails);
-    let answer = answer_by(&rt, rt.alloc(), line, &mut failing, input, 1000, 1000)?;
-    assert_untouched(&rt, line, &answer, 7, "read fault\n");
-    Ok(())
+    stops_at_a_failed_fetch(&rt, rt.alloc(), line, input)
 }
 
 // The bytes from one place up to another, or none where these aren't there.
@@ -614,14 +734,21 @@ fn protects_what_it_generates(rt: HostRuntime) -> Result<(), Fail> {
     Ok(())
 }
 
+/// The packet of this number stands in its slot, and two slots later again.
+fn stands(made: &[u8], sent: &[u8], slot: usize) -> bool
+    requires { slot < 3000 }
+{
+    let at = 44 + 104 * slot;
+    let record = part(made, 46 + 38 * slot, 82 + 38 * slot);
+    record.len() == 36
+        && part(sent, at + 32, at + 68) == record
+        && part(sent, at + 276, at + 312) == record
+}
+
 /// Of 3000 packets of 30 bytes each stands in its slot, and two slots later again.
 fn assert_slots(rt: &impl Abort, made: &[u8], sent: &[u8]) {
     assert_eq!(rt; sent.len(), 44 + 3002 * 104);
     for slot in 0..3000 {
-        let at = 44 + 104 * slot;
-        let record = part(made, 46 + 38 * slot, 82 + 38 * slot);
-        assert_eq!(rt; record.len(), 36, "{slot}");
-        assert!(rt; part(sent, at + 32, at + 68) == record, "{slot}");
-        assert!(rt; part(sent, at + 276, at + 312) == record, "{slot}");
+        assert!(rt; stands(made, sent, slot), "{slot}");
     }
 }

@@ -1,5 +1,5 @@
 //! Whole runs of `check`. What is wanted is written out by hand from the definitions.
-use super::{answer_by, answer_over, assert_answer, assert_cut, one_file, two_files};
+use super::{answer_over, answer_with, answer_with_both, assert_answer, assert_cut, one_file};
 use crate::{certify_is_bounding, check_is_meeting};
 use sc_check::Gate;
 use sc_outside::MemoryPort;
@@ -83,24 +83,25 @@ const CHECKS: &[(&str, &[u8], u8, &str, &str)] = &[
 fn check_judges_codes(rt: HostRuntime) -> Result<(), Fail> {
     for row in CHECKS {
         let (line, text, status, given, note) = *row;
-        let mut cabinet = one_file(rt.alloc(), "c", text)?;
-        let answer = answer_by(&rt, rt.alloc(), line, &mut cabinet, &[], 1000, 1000)?;
+        let answer = answer_with(&rt, rt.alloc(), line, text, &[], 1000, 1000)?;
         assert_answer(&rt, line, &answer, status, given.as_bytes(), note);
     }
     Ok(())
 }
 
+const FAULTS: &[(usize, u32, u8, &str, usize)] = &[
+    (1000, 0, 8, "write fault\n", 0),
+    (1000, 2, 8, "write fault\n", 14),
+    (20, 1000, 8, "write fault\n", 20),
+    (33, 1000, 0, "accepted\n", 33),
+];
+
 #[test]
 fn check_stops_at_a_failed_write(rt: HostRuntime) -> Result<(), Fail> {
     let line = "meets 3 2 1 2 rate 1/2 classes 2\n";
-    for (room, fail, status, note, given) in [
-        (1000, 0, 8, "write fault\n", 0),
-        (1000, 2, 8, "write fault\n", 14),
-        (20, 1000, 8, "write fault\n", 20),
-        (33, 1000, 0, "accepted\n", 33),
-    ] {
-        let mut cabinet = one_file(rt.alloc(), "c", REPEAT)?;
-        let answer = answer_by(&rt, rt.alloc(), "check c 1", &mut cabinet, &[], room, fail)?;
+    for row in FAULTS {
+        let (room, fail, status, note, given) = *row;
+        let answer = answer_with(&rt, rt.alloc(), "check c 1", REPEAT, &[], room, fail)?;
         assert_cut(&rt, &answer, status, note, line.as_bytes(), given);
     }
     Ok(())
@@ -198,8 +199,7 @@ const CERTIFICATES: &[(&str, &[u8], u8, &str, &str)] = &[
 fn certify_judges_certificates(rt: HostRuntime) -> Result<(), Fail> {
     for row in CERTIFICATES {
         let (line, cert, status, given, note) = *row;
-        let mut cabinet = two_files(rt.alloc(), REPEAT, cert)?;
-        let answer = answer_by(&rt, rt.alloc(), line, &mut cabinet, &[], 1000, 1000)?;
+        let answer = answer_with_both(&rt, rt.alloc(), line, REPEAT, cert, &[])?;
         assert_answer(&rt, line, &answer, status, given.as_bytes(), note);
     }
     check_is_meeting();
@@ -249,8 +249,9 @@ fn workers_of_a_run_meet(rt: HostRuntime) -> Result<(), Fail> {
     let answer = answer_over(&rt, alloc, line, &mut cabinet, port, &gate)?;
     let given = b"meets 4 3 2 3 rate 2/5 classes 4\n";
     assert_answer(&rt, line, &answer, 0, given, "accepted\n");
-    assert_eq!(rt; gate.first.load(Ordering::SeqCst), 1);
-    assert_eq!(rt; gate.second.load(Ordering::SeqCst), 1);
-    assert_eq!(rt; gate.alone.load(Ordering::SeqCst), 0);
+    let first = gate.first.load(Ordering::SeqCst);
+    let second = gate.second.load(Ordering::SeqCst);
+    let alone = gate.alone.load(Ordering::SeqCst);
+    assert_eq!(rt; [first, second, alone], [1, 1, 0]);
     Ok(())
 }

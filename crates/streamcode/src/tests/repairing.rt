@@ -1,11 +1,11 @@
 //! Whole runs of `repair`. What is wanted is written out by hand from the format.
 use super::{
     Answer, CODE, EMPTY_0, EMPTY_1, FRAME, OTHERS, PACKET, PREAMBLE, SLOT_0, SLOT_1, SLOT_2, ZEROS,
-    answer_by, answer_in_pieces, assert_answer, assert_cut, assert_untouched, joined, one_file,
+    answer_in_pieces, answer_with, assert_answer, assert_cut, concluded, joined, judges, spaces,
     two_files,
 };
-use crate::{End, conclude, repair_is_repairing};
-use sc_outside::{MemoryCabinet, MemorySink};
+use crate::{End, repair_is_repairing};
+use sc_outside::MemoryCabinet;
 use sc_repair::{EndState, RepairEnd, Unfit};
 use sc_rtpdump::DumpFault;
 use std::alloc::{AllocError, Global};
@@ -61,8 +61,7 @@ fn repair_of<R: Threads + Sync>(
     room: usize,
     fail: u32,
 ) -> Result<Answer, Fail> {
-    let mut cabinet = one_file(alloc, "c", CODE)?;
-    answer_by(rt, alloc, "repair c", &mut cabinet, input, room, fail)
+    answer_with(rt, alloc, "repair c", CODE, input, room, fail)
 }
 
 // The code repeats each block two slots later. Slots of a capture are numbered from 0, with packet 1 in slot 0.
@@ -165,57 +164,86 @@ fn repairs_what_came(rt: HostRuntime) -> Result<(), Fail> {
 }
 
 // The protected capture of one packet, in its pieces, and what else stands among them.
+const RECORDS: &[(&[&[u8]], u8, &[&[u8]], &str)] = &[
+    (
+        &[PREAMBLE, EMPTY_0, ZEROS, ZEROS, EMPTY_1, ZEROS, ZEROS],
+        0,
+        &[PREAMBLE],
+        "slots 0 missed 0 strangers 0 repeats 0\n",
+    ),
+    (
+        &[
+            PREAMBLE, SLOT_0, FRAME, ZEROS, PACKET, SLOT_1, ZEROS, ZEROS, OTHERS, SLOT_2, ZEROS,
+            FRAME,
+        ],
+        0,
+        &[PREAMBLE, PACKET],
+        "slots 1 missed 0 strangers 4 repeats 0\n",
+    ),
+    // Symbols of 19 bytes, and a frame that is one byte shorter than what stands behind it.
+    (
+        &[
+            PREAMBLE,
+            SLOT_0,
+            FRAME,
+            ZEROS,
+            b"\x00\x46\x00\x3e\x00\x00\x00\x14\x80\x60\x00\x01\x00\x00\x00\xa0SCD1SC\x01\x01\x01\x01\x00\x13\x00\x00\x00\x01",
+            &[0; 38],
+        ],
+        3,
+        &[PREAMBLE, PACKET],
+        "slot 1 other width\n",
+    ),
+    (
+        &[
+            PREAMBLE,
+            SLOT_1,
+            ZEROS,
+            ZEROS,
+            SLOT_2,
+            ZEROS,
+            b"\x00\x0b\x00\x00\x00\x14\x80\x00\x00\x01\x00\x00\x00\xa0\x12\x34\x56\x78",
+        ],
+        3,
+        &[PREAMBLE],
+        "slot 0 bad block\n",
+    ),
+    (
+        &[
+            PREAMBLE,
+            SLOT_0,
+            FRAME,
+            ZEROS,
+            SLOT_1,
+            ZEROS,
+            ZEROS,
+            SLOT_2,
+            ZEROS,
+            b"\x00\x0c\x00\x00\x00\x14\x80\x00\x00\x01\x00\x00\x00\xa0\x12\x34\x56",
+        ],
+        3,
+        &[PREAMBLE, PACKET],
+        "record 2 cut\n",
+    ),
+    (
+        &[PREAMBLE, SLOT_0, FRAME, ZEROS, b"\x00\x44"],
+        3,
+        &[PREAMBLE, PACKET],
+        "record 1 head\n",
+    ),
+    (
+        &[PREAMBLE, b"\x00\x07\x00\x00\x00\x00\x00\x00"],
+        3,
+        &[PREAMBLE],
+        "record 0 length\n",
+    ),
+    (&[b"#!rtpplay1.0 127.0.0.1/5004"], 3, &[], "preamble\n"),
+];
+
 #[test]
 fn repairs_and_refuses_records(rt: HostRuntime) -> Result<(), Fail> {
-    let none: &[&[u8]] = &[PREAMBLE];
-    let one: &[&[u8]] = &[PREAMBLE, PACKET];
-    let flushed: &[&[u8]] = &[PREAMBLE, EMPTY_0, ZEROS, ZEROS, EMPTY_1, ZEROS, ZEROS];
-    let among: &[&[u8]] = &[
-        PREAMBLE, SLOT_0, FRAME, ZEROS, PACKET, SLOT_1, ZEROS, ZEROS, OTHERS, SLOT_2, ZEROS, FRAME,
-    ];
-    // Symbols of 19 bytes, and a frame that is one byte shorter than what stands behind it.
-    let wider: &[&[u8]] = &[
-        PREAMBLE,
-        SLOT_0,
-        FRAME,
-        ZEROS,
-        b"\x00\x46\x00\x3e\x00\x00\x00\x14\x80\x60\x00\x01\x00\x00\x00\xa0SCD1SC\x01\x01\x01\x01\x00\x13\x00\x00\x00\x01",
-        &[0; 38],
-    ];
-    let shorter: &[&[u8]] = &[
-        PREAMBLE,
-        SLOT_1,
-        ZEROS,
-        ZEROS,
-        SLOT_2,
-        ZEROS,
-        b"\x00\x0b\x00\x00\x00\x14\x80\x00\x00\x01\x00\x00\x00\xa0\x12\x34\x56\x78",
-    ];
-    let cut: &[&[u8]] = &[
-        PREAMBLE,
-        SLOT_0,
-        FRAME,
-        ZEROS,
-        SLOT_1,
-        ZEROS,
-        ZEROS,
-        SLOT_2,
-        ZEROS,
-        b"\x00\x0c\x00\x00\x00\x14\x80\x00\x00\x01\x00\x00\x00\xa0\x12\x34\x56",
-    ];
-    let head: &[&[u8]] = &[PREAMBLE, SLOT_0, FRAME, ZEROS, b"\x00\x44"];
-    let length: &[&[u8]] = &[PREAMBLE, b"\x00\x07\x00\x00\x00\x00\x00\x00"];
-    let bare: &[&[u8]] = &[b"#!rtpplay1.0 127.0.0.1/5004"];
-    for (input, status, given, note) in [
-        (flushed, 0, none, "slots 0 missed 0 strangers 0 repeats 0\n"),
-        (among, 0, one, "slots 1 missed 0 strangers 4 repeats 0\n"),
-        (wider, 3, one, "slot 1 other width\n"),
-        (shorter, 3, none, "slot 0 bad block\n"),
-        (cut, 3, one, "record 2 cut\n"),
-        (head, 3, one, "record 1 head\n"),
-        (length, 3, none, "record 0 length\n"),
-        (bare, 3, &[], "preamble\n"),
-    ] {
+    for row in RECORDS {
+        let (input, status, given, note) = *row;
         let given = joined(rt.alloc(), given)?;
         let answer = repair_of(&rt, rt.alloc(), input, 1000, 1000)?;
         assert_answer(&rt, "repair", &answer, status, &given, note);
@@ -242,15 +270,21 @@ const CHANGES: &[(usize, u8, u8, &[u8], &str)] = &[
     (247, 0x79, 6, &[1], "slot 2 clash\n"),
 ];
 
+/// The capture with this byte at this place.
+fn changed(alloc: Global, place: usize, byte: u8) -> Result<Vec<u8>, Fail> {
+    let mut bytes = slots(alloc, &[(0, 0, 1, 0), (1, 1, 0, 0), (2, 2, 0, 1)])?;
+    match bytes.get_mut(place) {
+        Some(there) => *there = byte,
+        None => Err("no byte")?,
+    }
+    Ok(bytes)
+}
+
 #[test]
 fn repair_refuses_changed_bytes(rt: HostRuntime) -> Result<(), Fail> {
     for row in CHANGES {
         let (place, byte, status, ids, note) = *row;
-        let mut input = slots(rt.alloc(), &[(0, 0, 1, 0), (1, 1, 0, 0), (2, 2, 0, 1)])?;
-        match input.get_mut(place) {
-            Some(there) => *there = byte,
-            None => Err("no byte")?,
-        }
+        let input = changed(rt.alloc(), place, byte)?;
         let given = packets(rt.alloc(), ids)?;
         let answer = repair_of(&rt, rt.alloc(), &[&input], 1000, 1000)?;
         assert_answer(&rt, "repair", &answer, status, &given, note);
@@ -258,24 +292,32 @@ fn repair_refuses_changed_bytes(rt: HostRuntime) -> Result<(), Fail> {
     Ok(())
 }
 
+const JUDGED: &[(&str, &[u8], u8, &str)] = &[
+    ("repair", CODE, 2, "usage\n"),
+    ("repair c 12", CODE, 2, "usage\n"),
+    ("repair d", CODE, 7, "read fault\n"),
+    ("repair c", b"{", 3, "code not json\n"),
+    ("repair c", b"[]", 3, "code shape whole\n"),
+];
+
 // What the words and the file decide: nothing is read or given.
 #[test]
 fn repair_judges_its_file(rt: HostRuntime) -> Result<(), Fail> {
-    let input: &[&[u8]] = &[PREAMBLE, PACKET];
-    let long = vec![in rt.alloc(); b' '; 4_194_305]?;
-    for (line, text, status, note) in [
-        ("repair", CODE, 2, "usage\n"),
-        ("repair c 12", CODE, 2, "usage\n"),
-        ("repair d", CODE, 7, "read fault\n"),
-        ("repair c", b"{", 3, "code not json\n"),
-        ("repair c", b"[]", 3, "code shape whole\n"),
-        ("repair c", &long, 4, "code limit 4194305\n"),
-    ] {
-        let mut cabinet = one_file(rt.alloc(), "c", text)?;
-        let answer = answer_by(&rt, rt.alloc(), line, &mut cabinet, input, 1000, 1000)?;
-        assert_untouched(&rt, line, &answer, status, note);
+    let alloc = rt.alloc();
+    for row in JUDGED {
+        let (line, text, status, note) = *row;
+        judges(&rt, alloc, line, "c", text, status, note)?;
     }
-    Ok(())
+    let long = spaces(alloc, 4_194_305)?;
+    judges(
+        &rt,
+        alloc,
+        "repair c",
+        "c",
+        &long,
+        4,
+        "code limit 4194305\n",
+    )
 }
 
 // Slot 0 is lost, so its packet is known once slot 2 was read, and it is written before the next read. In pieces of 7 bytes, 20
@@ -352,9 +394,9 @@ const REFUSALS: &[(RepairEnd, u8, &str)] = &[
 fn every_fault_of_repair_has_its_note(rt: HostRuntime) -> Result<(), Fail> {
     for row in REFUSALS {
         let (fault, status, note) = *row;
-        let mut notes = MemorySink::new(rt.alloc(), 128, Vec::new(rt.alloc()))?;
-        assert_eq!(rt; conclude(&mut notes, End::of_repair(Err(fault))), status);
-        assert_eq!(rt; notes.given(), note.as_bytes());
+        let (ended, told) = concluded(rt.alloc(), End::of_repair(Err(fault)), 128)?;
+        assert_eq!(rt; ended, status);
+        assert_eq!(rt; told.as_slice(), note.as_bytes());
     }
     Ok(())
 }
@@ -380,6 +422,18 @@ fn half_lost(alloc: Global) -> Result<Vec<u8>, AllocError> {
     Ok(loss)
 }
 
+/// Protects a capture and thins that: how many bytes the protected one has, and what is left of it.
+fn thinned<R: Threads + Sync>(
+    rt: &R,
+    alloc: Global,
+    cabinet: &mut MemoryCabinet,
+    made: &[u8],
+) -> Result<(usize, Vec<u8>), Fail> {
+    let sent = given_by(rt, alloc, "protect c 30", cabinet, made)?;
+    let came = given_by(rt, alloc, "lose c d", cabinet, &sent.given)?;
+    Ok((sent.given.len(), came.given))
+}
+
 // A generated capture is protected and thinned, and comes back byte for byte. Half of its slots are lost, the last two among
 // them, as the channel admits.
 #[test]
@@ -387,17 +441,12 @@ fn what_was_lost_comes_back(rt: HostRuntime) -> Result<(), Fail> {
     let loss = half_lost(rt.alloc())?;
     let mut cabinet = two_files(rt.alloc(), CODE, &loss)?;
     let made = given_by(&rt, rt.alloc(), "gen 5 200 30", &mut cabinet, b"")?;
-    assert_eq!(rt; made.given.len(), 44 + 200 * 38);
-    let sent = given_by(&rt, rt.alloc(), "protect c 30", &mut cabinet, &made.given)?;
-    assert_eq!(rt; sent.given.len(), 44 + 202 * 104);
-    let came = given_by(&rt, rt.alloc(), "lose c d", &mut cabinet, &sent.given)?;
-    assert_eq!(rt; came.given.len(), 44 + 100 * 104);
-    let back = given_by(&rt, rt.alloc(), "repair c", &mut cabinet, &came.given)?;
-    assert_eq!(rt; back.status, 0);
-    assert_eq!(rt;
-        back.note.as_slice(),
-        b"slots 200 missed 0 strangers 0 repeats 0\n".as_slice()
-    );
-    assert!(rt; back.given.as_slice() == made.given.as_slice());
+    let (sent, came) = thinned(&rt, rt.alloc(), &mut cabinet, &made.given)?;
+    let lengths = [made.given.len(), sent, came.len()];
+    assert_eq!(rt; lengths, [44 + 200 * 38, 44 + 202 * 104, 44 + 100 * 104]);
+    let line = "repair c";
+    let back = given_by(&rt, rt.alloc(), line, &mut cabinet, &came)?;
+    let note = "slots 200 missed 0 strangers 0 repeats 0\n";
+    assert_answer(&rt, line, &back, 0, &made.given, note);
     Ok(())
 }

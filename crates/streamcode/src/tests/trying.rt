@@ -1,8 +1,8 @@
 //! Whole runs of `trial`. The numbers come from a Python program: it draws the words of PCG32 and the loss by their definitions, and
 //! eliminates over GF(256) what is known by each lost packet's deadline.
 use super::{
-    Answer, CODE, answer_by, assert_answer, assert_cut, assert_untouched, failing_files, one_file,
-    wide_code,
+    Answer, CODE, answer_with, assert_answer, assert_cut, assert_untouched,
+    stops_at_a_failed_fetch, wide_code,
 };
 use crate::trial_is_counting;
 use std::alloc::Global;
@@ -23,8 +23,7 @@ fn tried<R: Threads + Sync>(
     line: &str,
     code: &[u8],
 ) -> Result<Answer, Fail> {
-    let mut cabinet = one_file(alloc, "c", code)?;
-    answer_by(rt, alloc, line, &mut cabinet, &[b"input"], 1000, 1000)
+    answer_with(rt, alloc, line, code, &[b"input"], 1000, 1000)
 }
 
 const TRIALS: &[(&str, &[u8], u8, &str)] = &[
@@ -95,50 +94,44 @@ fn trial_counts_what_comes_back(rt: HostRuntime) -> Result<(), Fail> {
     Ok(())
 }
 
+const REFUSED: &[(&str, &[u8], u8, &str)] = &[
+    ("trial c 42 10001 12", CODE, 2, "usage\n"),
+    ("trial c 42 4 11", CODE, 2, "usage\n"),
+    ("trial c 42 4", CODE, 2, "usage\n"),
+    ("trial d 42 4 12", CODE, 7, "read fault\n"),
+    ("trial c 42 4 12", b"{", 3, "code not json\n"),
+    ("trial c 42 4 12", b"[]", 3, "code shape whole\n"),
+];
+
 // What the words and the file decide: nothing is read or given.
 #[test]
 fn trial_refuses(rt: HostRuntime) -> Result<(), Fail> {
-    let wide = wide_code(rt.alloc())?;
-    for (line, code, status, note) in [
-        ("trial c 42 10001 12", CODE, 2, "usage\n"),
-        ("trial c 42 4 11", CODE, 2, "usage\n"),
-        ("trial c 42 4", CODE, 2, "usage\n"),
-        ("trial d 42 4 12", CODE, 7, "read fault\n"),
-        ("trial c 42 4 12", b"{", 3, "code not json\n"),
-        ("trial c 42 4 12", b"[]", 3, "code shape whole\n"),
-        ("trial c 42 4 1472", &wide, 4, "limit packet 94616\n"),
-    ] {
+    for row in REFUSED {
+        let (line, code, status, note) = *row;
         let answer = tried(&rt, rt.alloc(), line, code)?;
         assert_untouched(&rt, line, &answer, status, note);
     }
-    let fails = vec![in rt.alloc(); 0]?;
-    let mut failing = failing_files(rt.alloc(), CODE, b"", fails)?;
-    let line = "trial c 42 4 12";
-    let answer = answer_by(&rt, rt.alloc(), line, &mut failing, &[], 1000, 1000)?;
-    assert_untouched(&rt, line, &answer, 7, "read fault\n");
-    Ok(())
+    let line = "trial c 42 4 1472";
+    let answer = tried(&rt, rt.alloc(), line, &wide_code(rt.alloc())?)?;
+    assert_untouched(&rt, line, &answer, 4, "limit packet 94616\n");
+    stops_at_a_failed_fetch(&rt, rt.alloc(), "trial c 42 4 12", &[])
 }
+
+const FAULTS: &[(usize, u32, u8, &str, usize)] = &[
+    (1000, 0, 8, "write fault\n", 0),
+    (1000, 4, 8, "write fault\n", 28),
+    (31, 1000, 8, "write fault\n", 31),
+    (32, 1000, 0, "trial done\n", 32),
+];
 
 #[test]
 fn trial_stops_at_a_failed_write(rt: HostRuntime) -> Result<(), Fail> {
-    let line = b"slots 6 lost 2 equal 4 missed 0\n".as_slice();
-    for (room, fail, status, note, given) in [
-        (1000, 0, 8, "write fault\n", 0),
-        (1000, 4, 8, "write fault\n", 28),
-        (31, 1000, 8, "write fault\n", 31),
-        (32, 1000, 0, "trial done\n", 32),
-    ] {
-        let mut cabinet = one_file(rt.alloc(), "c", CODE)?;
-        let answer = answer_by(
-            &rt,
-            rt.alloc(),
-            "trial c 42 4 12",
-            &mut cabinet,
-            &[],
-            room,
-            fail,
-        )?;
-        assert_cut(&rt, &answer, status, note, line, given);
+    let due = b"slots 6 lost 2 equal 4 missed 0\n".as_slice();
+    let line = "trial c 42 4 12";
+    for row in FAULTS {
+        let (room, fail, status, note, given) = *row;
+        let answer = answer_with(&rt, rt.alloc(), line, CODE, &[], room, fail)?;
+        assert_cut(&rt, &answer, status, note, due, given);
     }
     Ok(())
 }
